@@ -15,105 +15,273 @@ class AsmClobberAbi(AsmPiece):
     """The ABIs whose registers are overwritten: `clobber_abi("C")`."""
 
     KIND = "ASM_CLOBBER_ABI"
-    clobber_abi_token: Optional[Element] = token("CLOBBER_ABI_KW", "Example: `clobber_abi` of `clobber_abi(\"C\")`.")
-    l_paren_token: Optional[Element] = token("L_PAREN", "Example: `(` of `clobber_abi(\"C\")`.")
-    r_paren_token: Optional[Element] = token("R_PAREN", "Example: `)` of `clobber_abi(\"C\")`.")
-    string_token: Optional[Element] = token("STRING", "Example: `\"C\"` of `clobber_abi(\"C\")`.")
+
+    @property
+    def clobber_abi_token(self) -> Optional[Element]:
+        """Example: `clobber_abi` of `clobber_abi("C")`."""
+        return token(self, "CLOBBER_ABI_KW")
+
+    @property
+    def l_paren_token(self) -> Optional[Element]:
+        """Example: `(` of `clobber_abi("C")`."""
+        return token(self, "L_PAREN")
+
+    @property
+    def r_paren_token(self) -> Optional[Element]:
+        """Example: `)` of `clobber_abi("C")`."""
+        return token(self, "R_PAREN")
+
+    @property
+    def string_token(self) -> Optional[Element]:
+        """Example: `"C"` of `clobber_abi("C")`."""
+        return token(self, "STRING")
 
 
 class AsmConst(AsmOperand):
     """A constant as an operand: `const a`."""
 
     KIND = "ASM_CONST"
-    const_token: Optional[Element] = token("CONST_KW", "Example: `const` of `const b`.")
-    expr: Optional[Expr] = first("Expr", "Example: `b` of `const b`.")
+
+    @property
+    def const_token(self) -> Optional[Element]:
+        """Example: `const` of `const b`."""
+        return token(self, "CONST_KW")
+
+    @property
+    def expr(self) -> Optional[Expr]:
+        """Example: `b` of `const b`."""
+        return first(self, "Expr")
 
 
 class AsmDirSpec(View):
     """The direction of an operand: `in`, `out`, `lateout`, `inout`, `inlateout`."""
 
     KIND = "ASM_DIR_SPEC"
-    in_token: Optional[Element] = token("IN_KW", "Example: `in` of `in`.")
-    inlateout_token: Optional[Element] = token("INLATEOUT_KW", "Example: `inlateout` of `inlateout`.")
-    inout_token: Optional[Element] = token("INOUT_KW", "Example: `inout` of `inout`.")
-    lateout_token: Optional[Element] = token("LATEOUT_KW", "Example: `lateout` of `lateout`.")
-    out_token: Optional[Element] = token("OUT_KW", "Example: `out` of `out`.")
+
+    @property
+    def in_token(self) -> Optional[Element]:
+        """Example: `in` of `in`."""
+        return token(self, "IN_KW")
+
+    @property
+    def inlateout_token(self) -> Optional[Element]:
+        """Example: `inlateout` of `inlateout`."""
+        return token(self, "INLATEOUT_KW")
+
+    @property
+    def inout_token(self) -> Optional[Element]:
+        """Example: `inout` of `inout`."""
+        return token(self, "INOUT_KW")
+
+    @property
+    def lateout_token(self) -> Optional[Element]:
+        """Example: `lateout` of `lateout`."""
+        return token(self, "LATEOUT_KW")
+
+    @property
+    def out_token(self) -> Optional[Element]:
+        """Example: `out` of `out`."""
+        return token(self, "OUT_KW")
 
 
 class AsmLabel(AsmOperand):
     """A block as an operand: `label { a }`."""
 
     KIND = "ASM_LABEL"
-    block_expr: Optional[BlockExpr] = first("BlockExpr", "Example: `{ b }` of `label { b }`.")
-    label_token: Optional[Element] = token("LABEL_KW", "Example: `label` of `label { b }`.")
+
+    @property
+    def block_expr(self) -> Optional[BlockExpr]:
+        """Example: `{ b }` of `label { b }`."""
+        return first(self, "BlockExpr")
+
+    @property
+    def label_token(self) -> Optional[Element]:
+        """Example: `label` of `label { b }`."""
+        return token(self, "LABEL_KW")
 
 
 class AsmOperandExpr(View):
     """What is read, and what is written: `a`, `a => b`."""
 
     KIND = "ASM_OPERAND_EXPR"
-    fat_arrow_token: Optional[Element] = token("FAT_ARROW", "Example: `=>` of `b => c`.")
-    in_expr: Optional[Expr] = first("Expr", "Example: `b` of `b => c`.")
-    out_expr: Optional[Expr] = second("Expr", "Example: `c` of `b => c`.")
+
+    @property
+    def fat_arrow_token(self) -> Optional[Element]:
+        """Example: `=>` of `b => c`."""
+        return token(self, "FAT_ARROW")
+
+    @property
+    def in_expr(self) -> Optional[Expr]:
+        """Example: `b` of `b => c`."""
+        return first(self, "Expr")
+
+    @property
+    def out_expr(self) -> Optional[Expr]:
+        """Example: `c` of `b => c`."""
+        return second(self, "Expr")
 
 
 class AsmOperandNamed(AsmPiece):
     """An operand, with a name where it has one: `a = in(r) b`."""
 
     KIND = "ASM_OPERAND_NAMED"
-    asm_operand: Optional[AsmOperand] = first("AsmOperand", "Example: `const c` of `b = const c`.")
-    eq_token: Optional[Element] = token("EQ", "Example: `=` of `b = const c`.")
-    name: Optional[Name] = first("Name", "Example: `b` of `b = const c`.")
+
+    @property
+    def asm_operand(self) -> Optional[AsmOperand]:
+        """Example: `const c` of `b = const c`."""
+        return first(self, "AsmOperand")
+
+    @property
+    def eq_token(self) -> Optional[Element]:
+        """Example: `=` of `b = const c`."""
+        return token(self, "EQ")
+
+    @property
+    def name(self) -> Optional[Name]:
+        """Example: `b` of `b = const c`."""
+        return first(self, "Name")
 
 
 class AsmOption(View):
     """An option: `pure`, `nomem`."""
 
     KIND = "ASM_OPTION"
-    att_syntax_token: Optional[Element] = token("ATT_SYNTAX_KW", "Example: `att_syntax` of `att_syntax`.")
-    may_unwind_token: Optional[Element] = token("MAY_UNWIND_KW", "Example: `may_unwind` of `may_unwind`.")
-    nomem_token: Optional[Element] = token("NOMEM_KW", "Example: `nomem` of `nomem`.")
-    noreturn_token: Optional[Element] = token("NORETURN_KW", "Example: `noreturn` of `noreturn`.")
-    nostack_token: Optional[Element] = token("NOSTACK_KW", "Example: `nostack` of `nostack`.")
-    preserves_flags_token: Optional[Element] = token("PRESERVES_FLAGS_KW", "Example: `preserves_flags` of `preserves_flags`.")
-    pure_token: Optional[Element] = token("PURE_KW", "Example: `pure` of `pure`.")
-    raw_token: Optional[Element] = token("RAW_KW", "Example: `raw` of `raw`.")
-    readonly_token: Optional[Element] = token("READONLY_KW", "Example: `readonly` of `readonly`.")
+
+    @property
+    def att_syntax_token(self) -> Optional[Element]:
+        """Example: `att_syntax` of `att_syntax`."""
+        return token(self, "ATT_SYNTAX_KW")
+
+    @property
+    def may_unwind_token(self) -> Optional[Element]:
+        """Example: `may_unwind` of `may_unwind`."""
+        return token(self, "MAY_UNWIND_KW")
+
+    @property
+    def nomem_token(self) -> Optional[Element]:
+        """Example: `nomem` of `nomem`."""
+        return token(self, "NOMEM_KW")
+
+    @property
+    def noreturn_token(self) -> Optional[Element]:
+        """Example: `noreturn` of `noreturn`."""
+        return token(self, "NORETURN_KW")
+
+    @property
+    def nostack_token(self) -> Optional[Element]:
+        """Example: `nostack` of `nostack`."""
+        return token(self, "NOSTACK_KW")
+
+    @property
+    def preserves_flags_token(self) -> Optional[Element]:
+        """Example: `preserves_flags` of `preserves_flags`."""
+        return token(self, "PRESERVES_FLAGS_KW")
+
+    @property
+    def pure_token(self) -> Optional[Element]:
+        """Example: `pure` of `pure`."""
+        return token(self, "PURE_KW")
+
+    @property
+    def raw_token(self) -> Optional[Element]:
+        """Example: `raw` of `raw`."""
+        return token(self, "RAW_KW")
+
+    @property
+    def readonly_token(self) -> Optional[Element]:
+        """Example: `readonly` of `readonly`."""
+        return token(self, "READONLY_KW")
 
 
 class AsmOptions(AsmPiece):
     """Options: `options(pure, nomem)`."""
 
     KIND = "ASM_OPTIONS"
-    asm_options: List[AsmOption] = every("AsmOption", "Example: `pure` and `nomem` of `options(pure, nomem)`.")
-    comma_token: Optional[Element] = token("COMMA", "Example: `,` of `options(pure, nomem)`.")
-    l_paren_token: Optional[Element] = token("L_PAREN", "Example: `(` of `options(pure, nomem)`.")
-    options_token: Optional[Element] = token("OPTIONS_KW", "Example: `options` of `options(pure, nomem)`.")
-    r_paren_token: Optional[Element] = token("R_PAREN", "Example: `)` of `options(pure, nomem)`.")
+
+    @property
+    def asm_options(self) -> List[AsmOption]:
+        """Example: `pure` and `nomem` of `options(pure, nomem)`."""
+        return every(self, "AsmOption")
+
+    @property
+    def comma_token(self) -> Optional[Element]:
+        """Example: `,` of `options(pure, nomem)`."""
+        return token(self, "COMMA")
+
+    @property
+    def l_paren_token(self) -> Optional[Element]:
+        """Example: `(` of `options(pure, nomem)`."""
+        return token(self, "L_PAREN")
+
+    @property
+    def options_token(self) -> Optional[Element]:
+        """Example: `options` of `options(pure, nomem)`."""
+        return token(self, "OPTIONS_KW")
+
+    @property
+    def r_paren_token(self) -> Optional[Element]:
+        """Example: `)` of `options(pure, nomem)`."""
+        return token(self, "R_PAREN")
 
 
 class AsmRegOperand(AsmOperand):
     """A register as an operand: `in(r) a`."""
 
     KIND = "ASM_REG_OPERAND"
-    asm_dir_spec: Optional[AsmDirSpec] = first("AsmDirSpec", "Example: `in` of `in(r) b`.")
-    asm_operand_expr: Optional[AsmOperandExpr] = first("AsmOperandExpr", "Example: `b` of `in(r) b`.")
-    asm_reg_spec: Optional[AsmRegSpec] = first("AsmRegSpec", "Example: `r` of `in(r) b`.")
-    l_paren_token: Optional[Element] = token("L_PAREN", "Example: `(` of `in(r) b`.")
-    r_paren_token: Optional[Element] = token("R_PAREN", "Example: `)` of `in(r) b`.")
+
+    @property
+    def asm_dir_spec(self) -> Optional[AsmDirSpec]:
+        """Example: `in` of `in(r) b`."""
+        return first(self, "AsmDirSpec")
+
+    @property
+    def asm_operand_expr(self) -> Optional[AsmOperandExpr]:
+        """Example: `b` of `in(r) b`."""
+        return first(self, "AsmOperandExpr")
+
+    @property
+    def asm_reg_spec(self) -> Optional[AsmRegSpec]:
+        """Example: `r` of `in(r) b`."""
+        return first(self, "AsmRegSpec")
+
+    @property
+    def l_paren_token(self) -> Optional[Element]:
+        """Example: `(` of `in(r) b`."""
+        return token(self, "L_PAREN")
+
+    @property
+    def r_paren_token(self) -> Optional[Element]:
+        """Example: `)` of `in(r) b`."""
+        return token(self, "R_PAREN")
 
 
 class AsmRegSpec(View):
     """A register, or a class of registers: `"eax"`, `r`."""
 
     KIND = "ASM_REG_SPEC"
-    name_ref: Optional[NameRef] = first("NameRef", "Example: `r` of `r`.")
-    string_token: Optional[Element] = token("STRING", "Example: `\"eax\"` of `\"eax\"`.")
+
+    @property
+    def name_ref(self) -> Optional[NameRef]:
+        """Example: `r` of `r`."""
+        return first(self, "NameRef")
+
+    @property
+    def string_token(self) -> Optional[Element]:
+        """Example: `"eax"` of `"eax"`."""
+        return token(self, "STRING")
 
 
 class AsmSym(AsmOperand):
     """A symbol as an operand: `sym a`."""
 
     KIND = "ASM_SYM"
-    path: Optional[Path] = first("Path", "Example: `b` of `sym b`.")
-    sym_token: Optional[Element] = token("SYM_KW", "Example: `sym` of `sym b`.")
+
+    @property
+    def path(self) -> Optional[Path]:
+        """Example: `b` of `sym b`."""
+        return first(self, "Path")
+
+    @property
+    def sym_token(self) -> Optional[Element]:
+        """Example: `sym` of `sym b`."""
+        return token(self, "SYM_KW")

@@ -15,111 +15,255 @@ class BecomeExpr(Expr, HasAttrs):
     """A tail call: `become f(a)`."""
 
     KIND = "BECOME_EXPR"
-    become_token: Optional[Element] = token("BECOME_KW", "Example: `become` of `become f(a)`.")
-    expr: Optional[Expr] = first("Expr", "Example: `f(a)` of `become f(a)`.")
+
+    @property
+    def become_token(self) -> Optional[Element]:
+        """Example: `become` of `become f(a)`."""
+        return token(self, "BECOME_KW")
+
+    @property
+    def expr(self) -> Optional[Expr]:
+        """Example: `f(a)` of `become f(a)`."""
+        return first(self, "Expr")
 
 
 class BlockExpr(ElseBranch, Expr, HasAttrs):
     """A block: `{ a; b }`, also `unsafe`, `async`, `const`, `try` and labelled ones."""
 
     KIND = "BLOCK_EXPR"
-    async_token: Optional[Element] = token("ASYNC_KW", "Example: `async` of `async move {}`.")
-    const_token: Optional[Element] = token("CONST_KW", "Example: `const` of `const {}`.")
-    gen_token: Optional[Element] = token("GEN_KW", "Example: `gen` of `gen {}`.")
-    label: Optional[Label] = first("Label", "Example: `'a:` of `'a: {}`.")
-    move_token: Optional[Element] = token("MOVE_KW", "Example: `move` of `async move {}`.")
-    stmt_list: Optional[StmtList] = first("StmtList", "Example: `{ a; b }` of `{ a; b }`.")
-    try_block_modifier: Optional[TryBlockModifier] = first("TryBlockModifier", "Example: `try bikeshed T` of `try bikeshed T {}`.")
-    unsafe_token: Optional[Element] = token("UNSAFE_KW", "Example: `unsafe` of `unsafe {}`.")
+
+    @property
+    def async_token(self) -> Optional[Element]:
+        """Example: `async` of `async move {}`."""
+        return token(self, "ASYNC_KW")
+
+    @property
+    def const_token(self) -> Optional[Element]:
+        """Example: `const` of `const {}`."""
+        return token(self, "CONST_KW")
+
+    @property
+    def gen_token(self) -> Optional[Element]:
+        """Example: `gen` of `gen {}`."""
+        return token(self, "GEN_KW")
+
+    @property
+    def label(self) -> Optional[Label]:
+        """Example: `'a:` of `'a: {}`."""
+        return first(self, "Label")
+
+    @property
+    def move_token(self) -> Optional[Element]:
+        """Example: `move` of `async move {}`."""
+        return token(self, "MOVE_KW")
+
+    @property
+    def stmt_list(self) -> Optional[StmtList]:
+        """Example: `{ a; b }` of `{ a; b }`."""
+        return first(self, "StmtList")
+
+    @property
+    def try_block_modifier(self) -> Optional[TryBlockModifier]:
+        """Example: `try bikeshed T` of `try bikeshed T {}`."""
+        return first(self, "TryBlockModifier")
+
+    @property
+    def unsafe_token(self) -> Optional[Element]:
+        """Example: `unsafe` of `unsafe {}`."""
+        return token(self, "UNSAFE_KW")
 
 
 class BreakExpr(Expr, HasAttrs):
     """`break`, with a label and a value where it has them."""
 
     KIND = "BREAK_EXPR"
-    break_token: Optional[Element] = token("BREAK_KW", "Example: `break` of `break 'a b`.")
-    expr: Optional[Expr] = first("Expr", "Example: `b` of `break 'a b`.")
-    lifetime: Optional[Lifetime] = first("Lifetime", "Example: `'a` of `break 'a b`.")
+
+    @property
+    def break_token(self) -> Optional[Element]:
+        """Example: `break` of `break 'a b`."""
+        return token(self, "BREAK_KW")
+
+    @property
+    def expr(self) -> Optional[Expr]:
+        """Example: `b` of `break 'a b`."""
+        return first(self, "Expr")
+
+    @property
+    def lifetime(self) -> Optional[Lifetime]:
+        """Example: `'a` of `break 'a b`."""
+        return first(self, "Lifetime")
 
 
 class ContinueExpr(Expr, HasAttrs):
     """`continue`, with a label where it has one."""
 
     KIND = "CONTINUE_EXPR"
-    continue_token: Optional[Element] = token("CONTINUE_KW", "Example: `continue` of `continue 'a`.")
-    lifetime: Optional[Lifetime] = first("Lifetime", "Example: `'a` of `continue 'a`.")
+
+    @property
+    def continue_token(self) -> Optional[Element]:
+        """Example: `continue` of `continue 'a`."""
+        return token(self, "CONTINUE_KW")
+
+    @property
+    def lifetime(self) -> Optional[Lifetime]:
+        """Example: `'a` of `continue 'a`."""
+        return first(self, "Lifetime")
 
 
 class ForExpr(Expr, HasLoopBody, HasAttrs):
     """A `for` loop: `for p in a { .. }`."""
 
     KIND = "FOR_EXPR"
-    for_token: Optional[Element] = token("FOR_KW", "Example: `for` of `for p in a { b }`.")
-    in_token: Optional[Element] = token("IN_KW", "Example: `in` of `for p in a { b }`.")
-    pat: Optional[Pat] = first("Pat", "Example: `p` of `for p in a { b }`.")
+
+    @property
+    def for_token(self) -> Optional[Element]:
+        """Example: `for` of `for p in a { b }`."""
+        return token(self, "FOR_KW")
+
+    @property
+    def in_token(self) -> Optional[Element]:
+        """Example: `in` of `for p in a { b }`."""
+        return token(self, "IN_KW")
+
+    @property
+    def pat(self) -> Optional[Pat]:
+        """Example: `p` of `for p in a { b }`."""
+        return first(self, "Pat")
 
 
 class IfExpr(ElseBranch, Expr, HasAttrs):
     """`if a { .. } else { .. }`."""
 
     KIND = "IF_EXPR"
-    else_token: Optional[Element] = token("ELSE_KW", "Example: `else` of `if a { b } else { c }`.")
-    if_token: Optional[Element] = token("IF_KW", "Example: `if` of `if a { b } else { c }`.")
+
+    @property
+    def else_token(self) -> Optional[Element]:
+        """Example: `else` of `if a { b } else { c }`."""
+        return token(self, "ELSE_KW")
+
+    @property
+    def if_token(self) -> Optional[Element]:
+        """Example: `if` of `if a { b } else { c }`."""
+        return token(self, "IF_KW")
 
 
 class LetExpr(Expr, HasAttrs):
     """A `let` in a condition: `let p = a`."""
 
     KIND = "LET_EXPR"
-    eq_token: Optional[Element] = token("EQ", "Example: `=` of `let p = a`.")
-    expr: Optional[Expr] = first("Expr", "Example: `a` of `let p = a`.")
-    let_token: Optional[Element] = token("LET_KW", "Example: `let` of `let p = a`.")
-    pat: Optional[Pat] = first("Pat", "Example: `p` of `let p = a`.")
+
+    @property
+    def eq_token(self) -> Optional[Element]:
+        """Example: `=` of `let p = a`."""
+        return token(self, "EQ")
+
+    @property
+    def expr(self) -> Optional[Expr]:
+        """Example: `a` of `let p = a`."""
+        return first(self, "Expr")
+
+    @property
+    def let_token(self) -> Optional[Element]:
+        """Example: `let` of `let p = a`."""
+        return token(self, "LET_KW")
+
+    @property
+    def pat(self) -> Optional[Pat]:
+        """Example: `p` of `let p = a`."""
+        return first(self, "Pat")
 
 
 class LoopExpr(Expr, HasLoopBody, HasAttrs):
     """A `loop { .. }`."""
 
     KIND = "LOOP_EXPR"
-    loop_token: Optional[Element] = token("LOOP_KW", "Example: `loop` of `loop {}`.")
+
+    @property
+    def loop_token(self) -> Optional[Element]:
+        """Example: `loop` of `loop {}`."""
+        return token(self, "LOOP_KW")
 
 
 class MatchExpr(Expr, HasAttrs):
     """`match a { .. }`."""
 
     KIND = "MATCH_EXPR"
-    expr: Optional[Expr] = first("Expr", "Example: `a` of `match a { p => b }`.")
-    match_arm_list: Optional[MatchArmList] = first("MatchArmList", "Example: `{ p => b }` of `match a { p => b }`.")
-    match_token: Optional[Element] = token("MATCH_KW", "Example: `match` of `match a { p => b }`.")
+
+    @property
+    def expr(self) -> Optional[Expr]:
+        """Example: `a` of `match a { p => b }`."""
+        return first(self, "Expr")
+
+    @property
+    def match_arm_list(self) -> Optional[MatchArmList]:
+        """Example: `{ p => b }` of `match a { p => b }`."""
+        return first(self, "MatchArmList")
+
+    @property
+    def match_token(self) -> Optional[Element]:
+        """Example: `match` of `match a { p => b }`."""
+        return token(self, "MATCH_KW")
 
 
 class ReturnExpr(Expr, HasAttrs):
     """`return`, with a value where it has one."""
 
     KIND = "RETURN_EXPR"
-    expr: Optional[Expr] = first("Expr", "Example: `a` of `return a`.")
-    return_token: Optional[Element] = token("RETURN_KW", "Example: `return` of `return a`.")
+
+    @property
+    def expr(self) -> Optional[Expr]:
+        """Example: `a` of `return a`."""
+        return first(self, "Expr")
+
+    @property
+    def return_token(self) -> Optional[Element]:
+        """Example: `return` of `return a`."""
+        return token(self, "RETURN_KW")
 
 
 class WhileExpr(Expr, HasLoopBody, HasAttrs):
     """A `while` loop: `while a { .. }`."""
 
     KIND = "WHILE_EXPR"
-    while_token: Optional[Element] = token("WHILE_KW", "Example: `while` of `while a {}`.")
+
+    @property
+    def while_token(self) -> Optional[Element]:
+        """Example: `while` of `while a {}`."""
+        return token(self, "WHILE_KW")
 
 
 class YeetExpr(Expr, HasAttrs):
     """`do yeet a`."""
 
     KIND = "YEET_EXPR"
-    do_token: Optional[Element] = token("DO_KW", "Example: `do` of `do yeet a`.")
-    expr: Optional[Expr] = first("Expr", "Example: `a` of `do yeet a`.")
-    yeet_token: Optional[Element] = token("YEET_KW", "Example: `yeet` of `do yeet a`.")
+
+    @property
+    def do_token(self) -> Optional[Element]:
+        """Example: `do` of `do yeet a`."""
+        return token(self, "DO_KW")
+
+    @property
+    def expr(self) -> Optional[Expr]:
+        """Example: `a` of `do yeet a`."""
+        return first(self, "Expr")
+
+    @property
+    def yeet_token(self) -> Optional[Element]:
+        """Example: `yeet` of `do yeet a`."""
+        return token(self, "YEET_KW")
 
 
 class YieldExpr(Expr, HasAttrs):
     """`yield a`."""
 
     KIND = "YIELD_EXPR"
-    expr: Optional[Expr] = first("Expr", "Example: `a` of `yield a`.")
-    yield_token: Optional[Element] = token("YIELD_KW", "Example: `yield` of `yield a`.")
+
+    @property
+    def expr(self) -> Optional[Expr]:
+        """Example: `a` of `yield a`."""
+        return first(self, "Expr")
+
+    @property
+    def yield_token(self) -> Optional[Element]:
+        """Example: `yield` of `yield a`."""
+        return token(self, "YIELD_KW")

@@ -15,202 +15,542 @@ class Const(Item, AssocItem, HasName, HasVisibility, HasAttrs):
     """A constant: `const A: T = a;`."""
 
     KIND = "CONST"
-    body: Optional[Expr] = first("Expr", "Example: `a` of `const A: T = a;`.")
-    colon_token: Optional[Element] = token("COLON", "Example: `:` of `const A: T = a;`.")
-    const_token: Optional[Element] = token("CONST_KW", "Example: `const` of `const A: T = a;`.")
-    default_token: Optional[Element] = token("DEFAULT_KW", "Example: `default` of `default const A: T = a;`.")
-    eq_token: Optional[Element] = token("EQ", "Example: `=` of `const A: T = a;`.")
-    semicolon_token: Optional[Element] = token("SEMICOLON", "Example: `;` of `const A: T = a;`.")
-    ty: Optional[Type] = first("Type", "Example: `T` of `const A: T = a;`.")
-    underscore_token: Optional[Element] = token("UNDERSCORE", "Example: `_` of `const _: T = a;`.")
+
+    @property
+    def body(self) -> Optional[Expr]:
+        """Example: `a` of `const A: T = a;`."""
+        return first(self, "Expr")
+
+    @property
+    def colon_token(self) -> Optional[Element]:
+        """Example: `:` of `const A: T = a;`."""
+        return token(self, "COLON")
+
+    @property
+    def const_token(self) -> Optional[Element]:
+        """Example: `const` of `const A: T = a;`."""
+        return token(self, "CONST_KW")
+
+    @property
+    def default_token(self) -> Optional[Element]:
+        """Example: `default` of `default const A: T = a;`."""
+        return token(self, "DEFAULT_KW")
+
+    @property
+    def eq_token(self) -> Optional[Element]:
+        """Example: `=` of `const A: T = a;`."""
+        return token(self, "EQ")
+
+    @property
+    def semicolon_token(self) -> Optional[Element]:
+        """Example: `;` of `const A: T = a;`."""
+        return token(self, "SEMICOLON")
+
+    @property
+    def ty(self) -> Optional[Type]:
+        """Example: `T` of `const A: T = a;`."""
+        return first(self, "Type")
+
+    @property
+    def underscore_token(self) -> Optional[Element]:
+        """Example: `_` of `const _: T = a;`."""
+        return token(self, "UNDERSCORE")
 
 
 class Enum(Item, Adt, HasName, HasVisibility, HasGenericParams, HasAttrs):
     """An enum: `enum E { A, B }`."""
 
     KIND = "ENUM"
-    enum_token: Optional[Element] = token("ENUM_KW", "Example: `enum` of `enum E { A, B }`.")
-    variant_list: Optional[VariantList] = first("VariantList", "Example: `{ A, B }` of `enum E { A, B }`.")
+
+    @property
+    def enum_token(self) -> Optional[Element]:
+        """Example: `enum` of `enum E { A, B }`."""
+        return token(self, "ENUM_KW")
+
+    @property
+    def variant_list(self) -> Optional[VariantList]:
+        """Example: `{ A, B }` of `enum E { A, B }`."""
+        return first(self, "VariantList")
 
 
 class ExternBlock(Item, HasAttrs):
     """`extern "C" { .. }`."""
 
     KIND = "EXTERN_BLOCK"
-    abi: Optional[Abi] = first("Abi", "Example: `extern \"C\"` of `unsafe extern \"C\" { fn f(); }`.")
-    extern_item_list: Optional[ExternItemList] = first("ExternItemList", "Example: `{ fn f(); }` of `unsafe extern \"C\" { fn f(); }`.")
-    unsafe_token: Optional[Element] = token("UNSAFE_KW", "Example: `unsafe` of `unsafe extern \"C\" { fn f(); }`.")
+
+    @property
+    def abi(self) -> Optional[Abi]:
+        """Example: `extern "C"` of `unsafe extern "C" { fn f(); }`."""
+        return first(self, "Abi")
+
+    @property
+    def extern_item_list(self) -> Optional[ExternItemList]:
+        """Example: `{ fn f(); }` of `unsafe extern "C" { fn f(); }`."""
+        return first(self, "ExternItemList")
+
+    @property
+    def unsafe_token(self) -> Optional[Element]:
+        """Example: `unsafe` of `unsafe extern "C" { fn f(); }`."""
+        return token(self, "UNSAFE_KW")
 
 
 class ExternCrate(Item, HasVisibility, HasAttrs):
     """`extern crate a as b;`."""
 
     KIND = "EXTERN_CRATE"
-    crate_token: Optional[Element] = token("CRATE_KW", "Example: `crate` of `extern crate a as b;`.")
-    extern_token: Optional[Element] = token("EXTERN_KW", "Example: `extern` of `extern crate a as b;`.")
-    name_ref: Optional[NameRef] = first("NameRef", "Example: `a` of `extern crate a as b;`.")
-    rename: Optional[Rename] = first("Rename", "Example: `as b` of `extern crate a as b;`.")
-    semicolon_token: Optional[Element] = token("SEMICOLON", "Example: `;` of `extern crate a as b;`.")
+
+    @property
+    def crate_token(self) -> Optional[Element]:
+        """Example: `crate` of `extern crate a as b;`."""
+        return token(self, "CRATE_KW")
+
+    @property
+    def extern_token(self) -> Optional[Element]:
+        """Example: `extern` of `extern crate a as b;`."""
+        return token(self, "EXTERN_KW")
+
+    @property
+    def name_ref(self) -> Optional[NameRef]:
+        """Example: `a` of `extern crate a as b;`."""
+        return first(self, "NameRef")
+
+    @property
+    def rename(self) -> Optional[Rename]:
+        """Example: `as b` of `extern crate a as b;`."""
+        return first(self, "Rename")
+
+    @property
+    def semicolon_token(self) -> Optional[Element]:
+        """Example: `;` of `extern crate a as b;`."""
+        return token(self, "SEMICOLON")
 
 
 class Fn(Item, AssocItem, ExternItem, HasName, HasVisibility, HasGenericParams, HasAttrs):
     """A function: `fn f(a: T) -> U { .. }`."""
 
     KIND = "FN"
-    abi: Optional[Abi] = first("Abi", "Example: `extern \"C\"` of `unsafe extern \"C\" fn f() {}`.")
-    async_token: Optional[Element] = token("ASYNC_KW", "Example: `async` of `async fn f() {}`.")
-    body: Optional[BlockExpr] = first("BlockExpr", "Example: `{ b }` of `fn f(a: T) -> U { b }`.")
-    const_token: Optional[Element] = token("CONST_KW", "Example: `const` of `const fn f() {}`.")
-    default_token: Optional[Element] = token("DEFAULT_KW", "Example: `default` of `default fn f() {}`.")
-    fn_token: Optional[Element] = token("FN_KW", "Example: `fn` of `fn f(a: T) -> U { b }`.")
-    gen_token: Optional[Element] = token("GEN_KW", "Example: `gen` of `gen fn f() {}`.")
-    param_list: Optional[ParamList] = first("ParamList", "Example: `(a: T)` of `fn f(a: T) -> U { b }`.")
-    ret_type: Optional[RetType] = first("RetType", "Example: `-> U` of `fn f(a: T) -> U { b }`.")
-    safe_token: Optional[Element] = token("SAFE_KW", "Example: `safe` of `safe fn f();`.")
-    semicolon_token: Optional[Element] = token("SEMICOLON", "Example: `;` of `fn f();`.")
-    unsafe_token: Optional[Element] = token("UNSAFE_KW", "Example: `unsafe` of `unsafe extern \"C\" fn f() {}`.")
+
+    @property
+    def abi(self) -> Optional[Abi]:
+        """Example: `extern "C"` of `unsafe extern "C" fn f() {}`."""
+        return first(self, "Abi")
+
+    @property
+    def async_token(self) -> Optional[Element]:
+        """Example: `async` of `async fn f() {}`."""
+        return token(self, "ASYNC_KW")
+
+    @property
+    def body(self) -> Optional[BlockExpr]:
+        """Example: `{ b }` of `fn f(a: T) -> U { b }`."""
+        return first(self, "BlockExpr")
+
+    @property
+    def const_token(self) -> Optional[Element]:
+        """Example: `const` of `const fn f() {}`."""
+        return token(self, "CONST_KW")
+
+    @property
+    def default_token(self) -> Optional[Element]:
+        """Example: `default` of `default fn f() {}`."""
+        return token(self, "DEFAULT_KW")
+
+    @property
+    def fn_token(self) -> Optional[Element]:
+        """Example: `fn` of `fn f(a: T) -> U { b }`."""
+        return token(self, "FN_KW")
+
+    @property
+    def gen_token(self) -> Optional[Element]:
+        """Example: `gen` of `gen fn f() {}`."""
+        return token(self, "GEN_KW")
+
+    @property
+    def param_list(self) -> Optional[ParamList]:
+        """Example: `(a: T)` of `fn f(a: T) -> U { b }`."""
+        return first(self, "ParamList")
+
+    @property
+    def ret_type(self) -> Optional[RetType]:
+        """Example: `-> U` of `fn f(a: T) -> U { b }`."""
+        return first(self, "RetType")
+
+    @property
+    def safe_token(self) -> Optional[Element]:
+        """Example: `safe` of `safe fn f();`."""
+        return token(self, "SAFE_KW")
+
+    @property
+    def semicolon_token(self) -> Optional[Element]:
+        """Example: `;` of `fn f();`."""
+        return token(self, "SEMICOLON")
+
+    @property
+    def unsafe_token(self) -> Optional[Element]:
+        """Example: `unsafe` of `unsafe extern "C" fn f() {}`."""
+        return token(self, "UNSAFE_KW")
 
 
 class Impl(Item, HasVisibility, HasGenericParams, HasAttrs):
     """An implementation: `impl T for U { .. }`, `impl U { .. }`."""
 
     KIND = "IMPL"
-    assoc_item_list: Optional[AssocItemList] = first("AssocItemList", "Example: `{ fn f() {} }` of `impl T for U { fn f() {} }`.")
-    const_token: Optional[Element] = token("CONST_KW", "Example: `const` of `impl const T for U {}`.")
-    default_token: Optional[Element] = token("DEFAULT_KW", "Example: `default` of `default impl T for U {}`.")
-    excl_token: Optional[Element] = token("BANG", "Example: `!` of `impl !T for U {}`.")
-    for_token: Optional[Element] = token("FOR_KW", "Example: `for` of `impl T for U { fn f() {} }`.")
-    impl_token: Optional[Element] = token("IMPL_KW", "Example: `impl` of `impl T for U { fn f() {} }`.")
-    unsafe_token: Optional[Element] = token("UNSAFE_KW", "Example: `unsafe` of `unsafe impl T for U {}`.")
+
+    @property
+    def assoc_item_list(self) -> Optional[AssocItemList]:
+        """Example: `{ fn f() {} }` of `impl T for U { fn f() {} }`."""
+        return first(self, "AssocItemList")
+
+    @property
+    def const_token(self) -> Optional[Element]:
+        """Example: `const` of `impl const T for U {}`."""
+        return token(self, "CONST_KW")
+
+    @property
+    def default_token(self) -> Optional[Element]:
+        """Example: `default` of `default impl T for U {}`."""
+        return token(self, "DEFAULT_KW")
+
+    @property
+    def excl_token(self) -> Optional[Element]:
+        """Example: `!` of `impl !T for U {}`."""
+        return token(self, "BANG")
+
+    @property
+    def for_token(self) -> Optional[Element]:
+        """Example: `for` of `impl T for U { fn f() {} }`."""
+        return token(self, "FOR_KW")
+
+    @property
+    def impl_token(self) -> Optional[Element]:
+        """Example: `impl` of `impl T for U { fn f() {} }`."""
+        return token(self, "IMPL_KW")
+
+    @property
+    def unsafe_token(self) -> Optional[Element]:
+        """Example: `unsafe` of `unsafe impl T for U {}`."""
+        return token(self, "UNSAFE_KW")
 
 
 class MacroCall(Item, AssocItem, ExternItem, HasAttrs):
     """A macro call: `m!(..)`."""
 
     KIND = "MACRO_CALL"
-    excl_token: Optional[Element] = token("BANG", "Example: `!` of `m!(a);`.")
-    path: Optional[Path] = first("Path", "Example: `m` of `m!(a);`.")
-    semicolon_token: Optional[Element] = token("SEMICOLON", "Example: `;` of `m!(a);`.")
-    token_tree: Optional[TokenTree] = first("TokenTree", "Example: `(a)` of `m!(a);`.")
+
+    @property
+    def excl_token(self) -> Optional[Element]:
+        """Example: `!` of `m!(a);`."""
+        return token(self, "BANG")
+
+    @property
+    def path(self) -> Optional[Path]:
+        """Example: `m` of `m!(a);`."""
+        return first(self, "Path")
+
+    @property
+    def semicolon_token(self) -> Optional[Element]:
+        """Example: `;` of `m!(a);`."""
+        return token(self, "SEMICOLON")
+
+    @property
+    def token_tree(self) -> Optional[TokenTree]:
+        """Example: `(a)` of `m!(a);`."""
+        return first(self, "TokenTree")
 
 
 class MacroDef(Item, Macro, HasName, HasVisibility, HasAttrs):
     """A macro 2.0: `macro m(..) { .. }`."""
 
     KIND = "MACRO_DEF"
-    macro_token: Optional[Element] = token("MACRO_KW", "Example: `macro` of `macro m(a) { b }`.")
+
+    @property
+    def macro_token(self) -> Optional[Element]:
+        """Example: `macro` of `macro m(a) { b }`."""
+        return token(self, "MACRO_KW")
 
 
 class MacroItems(View):
     """The items that a macro expands to."""
 
     KIND = "MACRO_ITEMS"
-    items: List[Item] = every("Item", "Its items.")
+
+    @property
+    def items(self) -> List[Item]:
+        """Its items."""
+        return every(self, "Item")
 
 
 class MacroRules(Item, Macro, HasName, HasVisibility, HasAttrs):
     """A macro by example: `macro_rules! m { .. }`."""
 
     KIND = "MACRO_RULES"
-    excl_token: Optional[Element] = token("BANG", "Example: `!` of `macro_rules! m { () => {} }`.")
-    macro_rules_token: Optional[Element] = token("MACRO_RULES_KW", "Example: `macro_rules` of `macro_rules! m { () => {} }`.")
-    token_tree: Optional[TokenTree] = first("TokenTree", "Example: `{ () => {} }` of `macro_rules! m { () => {} }`.")
+
+    @property
+    def excl_token(self) -> Optional[Element]:
+        """Example: `!` of `macro_rules! m { () => {} }`."""
+        return token(self, "BANG")
+
+    @property
+    def macro_rules_token(self) -> Optional[Element]:
+        """Example: `macro_rules` of `macro_rules! m { () => {} }`."""
+        return token(self, "MACRO_RULES_KW")
+
+    @property
+    def token_tree(self) -> Optional[TokenTree]:
+        """Example: `{ () => {} }` of `macro_rules! m { () => {} }`."""
+        return first(self, "TokenTree")
 
 
 class Module(Item, HasName, HasVisibility, HasAttrs):
     """A module: `mod m { .. }`, `mod m;`."""
 
     KIND = "MODULE"
-    item_list: Optional[ItemList] = first("ItemList", "Example: `{ fn f() {} }` of `mod m { fn f() {} }`.")
-    mod_token: Optional[Element] = token("MOD_KW", "Example: `mod` of `mod m { fn f() {} }`.")
-    semicolon_token: Optional[Element] = token("SEMICOLON", "Example: `;` of `mod m;`.")
+
+    @property
+    def item_list(self) -> Optional[ItemList]:
+        """Example: `{ fn f() {} }` of `mod m { fn f() {} }`."""
+        return first(self, "ItemList")
+
+    @property
+    def mod_token(self) -> Optional[Element]:
+        """Example: `mod` of `mod m { fn f() {} }`."""
+        return token(self, "MOD_KW")
+
+    @property
+    def semicolon_token(self) -> Optional[Element]:
+        """Example: `;` of `mod m;`."""
+        return token(self, "SEMICOLON")
 
 
 class Rename(View):
     """The new name of what is used: `as a`, `as _`."""
 
     KIND = "RENAME"
-    as_token: Optional[Element] = token("AS_KW", "Example: `as` of `as b`.")
-    name: Optional[Name] = first("Name", "Example: `b` of `as b`.")
-    underscore_token: Optional[Element] = token("UNDERSCORE", "Example: `_` of `as _`.")
+
+    @property
+    def as_token(self) -> Optional[Element]:
+        """Example: `as` of `as b`."""
+        return token(self, "AS_KW")
+
+    @property
+    def name(self) -> Optional[Name]:
+        """Example: `b` of `as b`."""
+        return first(self, "Name")
+
+    @property
+    def underscore_token(self) -> Optional[Element]:
+        """Example: `_` of `as _`."""
+        return token(self, "UNDERSCORE")
 
 
 class SourceFile(HasModuleItem, HasAttrs):
     """A source file."""
 
     KIND = "SOURCE_FILE"
-    frontmatter_token: Optional[Element] = token("FRONTMATTER", "Example: `---\\na\\n---\\n` of `---\\na\\n---\\nfn f() {}`.")
-    shebang_token: Optional[Element] = token("SHEBANG", "Example: `#!/bin/sh\\n` of `#!/bin/sh\\nfn f() {}`.")
+
+    @property
+    def frontmatter_token(self) -> Optional[Element]:
+        """Example: `---\\na\\n---\\n` of `---\\na\\n---\\nfn f() {}`."""
+        return token(self, "FRONTMATTER")
+
+    @property
+    def shebang_token(self) -> Optional[Element]:
+        """Example: `#!/bin/sh\\n` of `#!/bin/sh\\nfn f() {}`."""
+        return token(self, "SHEBANG")
 
 
 class Static(Item, ExternItem, HasName, HasVisibility, HasAttrs):
     """A static: `static A: T = a;`."""
 
     KIND = "STATIC"
-    body: Optional[Expr] = first("Expr", "Example: `a` of `static A: T = a;`.")
-    colon_token: Optional[Element] = token("COLON", "Example: `:` of `static A: T = a;`.")
-    eq_token: Optional[Element] = token("EQ", "Example: `=` of `static A: T = a;`.")
-    mut_token: Optional[Element] = token("MUT_KW", "Example: `mut` of `static mut A: T = a;`.")
-    safe_token: Optional[Element] = token("SAFE_KW", "Example: `safe` of `safe static A: T;`.")
-    semicolon_token: Optional[Element] = token("SEMICOLON", "Example: `;` of `static A: T = a;`.")
-    static_token: Optional[Element] = token("STATIC_KW", "Example: `static` of `static A: T = a;`.")
-    ty: Optional[Type] = first("Type", "Example: `T` of `static A: T = a;`.")
-    unsafe_token: Optional[Element] = token("UNSAFE_KW", "Example: `unsafe` of `unsafe static A: T;`.")
+
+    @property
+    def body(self) -> Optional[Expr]:
+        """Example: `a` of `static A: T = a;`."""
+        return first(self, "Expr")
+
+    @property
+    def colon_token(self) -> Optional[Element]:
+        """Example: `:` of `static A: T = a;`."""
+        return token(self, "COLON")
+
+    @property
+    def eq_token(self) -> Optional[Element]:
+        """Example: `=` of `static A: T = a;`."""
+        return token(self, "EQ")
+
+    @property
+    def mut_token(self) -> Optional[Element]:
+        """Example: `mut` of `static mut A: T = a;`."""
+        return token(self, "MUT_KW")
+
+    @property
+    def safe_token(self) -> Optional[Element]:
+        """Example: `safe` of `safe static A: T;`."""
+        return token(self, "SAFE_KW")
+
+    @property
+    def semicolon_token(self) -> Optional[Element]:
+        """Example: `;` of `static A: T = a;`."""
+        return token(self, "SEMICOLON")
+
+    @property
+    def static_token(self) -> Optional[Element]:
+        """Example: `static` of `static A: T = a;`."""
+        return token(self, "STATIC_KW")
+
+    @property
+    def ty(self) -> Optional[Type]:
+        """Example: `T` of `static A: T = a;`."""
+        return first(self, "Type")
+
+    @property
+    def unsafe_token(self) -> Optional[Element]:
+        """Example: `unsafe` of `unsafe static A: T;`."""
+        return token(self, "UNSAFE_KW")
 
 
 class Struct(Item, Adt, VariantDef, HasName, HasVisibility, HasGenericParams, HasAttrs):
     """A struct: `struct S { f: T }`, `struct S(T);`, `struct S;`."""
 
     KIND = "STRUCT"
-    field_list: Optional[FieldList] = first("FieldList", "Example: `(T)` of `struct S(T);`.")
-    semicolon_token: Optional[Element] = token("SEMICOLON", "Example: `;` of `struct S(T);`.")
-    struct_token: Optional[Element] = token("STRUCT_KW", "Example: `struct` of `struct S(T);`.")
+
+    @property
+    def field_list(self) -> Optional[FieldList]:
+        """Example: `(T)` of `struct S(T);`."""
+        return first(self, "FieldList")
+
+    @property
+    def semicolon_token(self) -> Optional[Element]:
+        """Example: `;` of `struct S(T);`."""
+        return token(self, "SEMICOLON")
+
+    @property
+    def struct_token(self) -> Optional[Element]:
+        """Example: `struct` of `struct S(T);`."""
+        return token(self, "STRUCT_KW")
 
 
 class Trait(Item, HasName, HasVisibility, HasGenericParams, HasTypeBounds, HasAttrs):
     """A trait: `trait T { .. }`."""
 
     KIND = "TRAIT"
-    assoc_item_list: Optional[AssocItemList] = first("AssocItemList", "Example: `{ fn f(); }` of `trait T { fn f(); }`.")
-    auto_token: Optional[Element] = token("AUTO_KW", "Example: `auto` of `auto trait T {}`.")
-    eq_token: Optional[Element] = token("EQ", "Example: `=` of `trait T = U;`.")
-    semicolon_token: Optional[Element] = token("SEMICOLON", "Example: `;` of `trait T = U;`.")
-    trait_token: Optional[Element] = token("TRAIT_KW", "Example: `trait` of `trait T { fn f(); }`.")
-    unsafe_token: Optional[Element] = token("UNSAFE_KW", "Example: `unsafe` of `unsafe trait T {}`.")
+
+    @property
+    def assoc_item_list(self) -> Optional[AssocItemList]:
+        """Example: `{ fn f(); }` of `trait T { fn f(); }`."""
+        return first(self, "AssocItemList")
+
+    @property
+    def auto_token(self) -> Optional[Element]:
+        """Example: `auto` of `auto trait T {}`."""
+        return token(self, "AUTO_KW")
+
+    @property
+    def eq_token(self) -> Optional[Element]:
+        """Example: `=` of `trait T = U;`."""
+        return token(self, "EQ")
+
+    @property
+    def semicolon_token(self) -> Optional[Element]:
+        """Example: `;` of `trait T = U;`."""
+        return token(self, "SEMICOLON")
+
+    @property
+    def trait_token(self) -> Optional[Element]:
+        """Example: `trait` of `trait T { fn f(); }`."""
+        return token(self, "TRAIT_KW")
+
+    @property
+    def unsafe_token(self) -> Optional[Element]:
+        """Example: `unsafe` of `unsafe trait T {}`."""
+        return token(self, "UNSAFE_KW")
 
 
 class TypeAlias(Item, AssocItem, ExternItem, HasName, HasVisibility, HasGenericParams, HasTypeBounds, HasAttrs):
     """A type's other name: `type A = T;`."""
 
     KIND = "TYPE_ALIAS"
-    default_token: Optional[Element] = token("DEFAULT_KW", "Example: `default` of `default type A = T;`.")
-    eq_token: Optional[Element] = token("EQ", "Example: `=` of `type A = T;`.")
-    semicolon_token: Optional[Element] = token("SEMICOLON", "Example: `;` of `type A = T;`.")
-    ty: Optional[Type] = first("Type", "Example: `T` of `type A = T;`.")
-    type_token: Optional[Element] = token("TYPE_KW", "Example: `type` of `type A = T;`.")
+
+    @property
+    def default_token(self) -> Optional[Element]:
+        """Example: `default` of `default type A = T;`."""
+        return token(self, "DEFAULT_KW")
+
+    @property
+    def eq_token(self) -> Optional[Element]:
+        """Example: `=` of `type A = T;`."""
+        return token(self, "EQ")
+
+    @property
+    def semicolon_token(self) -> Optional[Element]:
+        """Example: `;` of `type A = T;`."""
+        return token(self, "SEMICOLON")
+
+    @property
+    def ty(self) -> Optional[Type]:
+        """Example: `T` of `type A = T;`."""
+        return first(self, "Type")
+
+    @property
+    def type_token(self) -> Optional[Element]:
+        """Example: `type` of `type A = T;`."""
+        return token(self, "TYPE_KW")
 
 
 class Union(Item, Adt, VariantDef, HasName, HasVisibility, HasGenericParams, HasAttrs):
     """A union: `union U { f: T }`."""
 
     KIND = "UNION"
-    record_field_list: Optional[RecordFieldList] = first("RecordFieldList", "Example: `{ f: T }` of `union U { f: T }`.")
-    union_token: Optional[Element] = token("UNION_KW", "Example: `union` of `union U { f: T }`.")
+
+    @property
+    def record_field_list(self) -> Optional[RecordFieldList]:
+        """Example: `{ f: T }` of `union U { f: T }`."""
+        return first(self, "RecordFieldList")
+
+    @property
+    def union_token(self) -> Optional[Element]:
+        """Example: `union` of `union U { f: T }`."""
+        return token(self, "UNION_KW")
 
 
 class Use(Item, HasVisibility, HasAttrs):
     """An import: `use a::{b, c};`."""
 
     KIND = "USE"
-    semicolon_token: Optional[Element] = token("SEMICOLON", "Example: `;` of `use a::b;`.")
-    use_token: Optional[Element] = token("USE_KW", "Example: `use` of `use a::b;`.")
-    use_tree: Optional[UseTree] = first("UseTree", "Example: `a::b` of `use a::b;`.")
+
+    @property
+    def semicolon_token(self) -> Optional[Element]:
+        """Example: `;` of `use a::b;`."""
+        return token(self, "SEMICOLON")
+
+    @property
+    def use_token(self) -> Optional[Element]:
+        """Example: `use` of `use a::b;`."""
+        return token(self, "USE_KW")
+
+    @property
+    def use_tree(self) -> Optional[UseTree]:
+        """Example: `a::b` of `use a::b;`."""
+        return first(self, "UseTree")
 
 
 class VariantList(View):
     """The variants of an enum with their braces: `{ A, B(T) }`."""
 
     KIND = "VARIANT_LIST"
-    l_curly_token: Optional[Element] = token("L_CURLY", "Example: `{` of `{ A, B }`.")
-    r_curly_token: Optional[Element] = token("R_CURLY", "Example: `}` of `{ A, B }`.")
-    variants: List[Variant] = every("Variant", "Example: `A` and `B` of `{ A, B }`.")
+
+    @property
+    def l_curly_token(self) -> Optional[Element]:
+        """Example: `{` of `{ A, B }`."""
+        return token(self, "L_CURLY")
+
+    @property
+    def r_curly_token(self) -> Optional[Element]:
+        """Example: `}` of `{ A, B }`."""
+        return token(self, "R_CURLY")
+
+    @property
+    def variants(self) -> List[Variant]:
+        """Example: `A` and `B` of `{ A, B }`."""
+        return every(self, "Variant")

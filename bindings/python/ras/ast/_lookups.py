@@ -1,7 +1,7 @@
 """What the views are made of. The names of the calls are those of rust-analyzer's crate `syntax`."""
 from __future__ import annotations
 
-from typing import TYPE_CHECKING, Any, Dict, Iterator, List, Optional, Type, TypeVar
+from typing import TYPE_CHECKING, Any, Dict, Iterator, Optional, Type, TypeVar
 
 if TYPE_CHECKING:
     from .. import Element
@@ -56,36 +56,28 @@ class View:
         return f"{type(self).__name__}({self.syntax!r})"
 
 
-def _all(node: Element, view: str) -> Iterator[View]:
-    kinds = _by_name[view]
-    return (it for it in map(kinds.cast, node.children()) if it is not None)
+def _all(view: View, of: str) -> Iterator[View]:
+    kinds = _by_name[of]
+    return (it for it in map(kinds.cast, view.syntax.children()) if it is not None)
 
 
-def first(view: str, doc: str) -> Any:
-    """The first child with this view; None if there is none."""
-    return property(lambda self: next(_all(self.syntax, view), None), doc=doc)
+def first(view: View, of: str) -> Any:
+    """The first child with a view of this name; None if there is none."""
+    return next(_all(view, of), None)
 
 
-def second(view: str, doc: str) -> Any:
-    """The second child with this view; None if there is none."""
-
-    def look(self: View) -> Optional[View]:
-        found = _all(self.syntax, view)
-        next(found, None)
-        return next(found, None)
-
-    return property(look, doc=doc)
+def second(view: View, of: str) -> Any:
+    """The second child with a view of this name; None if there is none."""
+    found = _all(view, of)
+    next(found, None)
+    return next(found, None)
 
 
-def every(view: str, doc: str) -> Any:
-    """The children with this view, in order."""
-
-    def look(self: View) -> List[View]:
-        return list(_all(self.syntax, view))
-
-    return property(look, doc=doc)
+def every(view: View, of: str) -> Any:
+    """The children with a view of this name, in order."""
+    return list(_all(view, of))
 
 
-def token(kind: str, doc: str) -> Any:
+def token(view: View, kind: str) -> Any:
     """The first child that is a token of this kind; None if there is none."""
-    return property(lambda self: next((it for it in self.syntax.children() if it.kind == kind and it.is_token), None), doc=doc)
+    return next((it for it in view.syntax.children() if it.kind == kind and it.is_token), None)

@@ -15,155 +15,379 @@ class Abi(View):
     """`extern "C"`."""
 
     KIND = "ABI"
-    extern_token: Optional[Element] = token("EXTERN_KW", "Example: `extern` of `extern \"C\"`.")
-    string_token: Optional[Element] = token("STRING", "Example: `\"C\"` of `extern \"C\"`.")
+
+    @property
+    def extern_token(self) -> Optional[Element]:
+        """Example: `extern` of `extern "C"`."""
+        return token(self, "EXTERN_KW")
+
+    @property
+    def string_token(self) -> Optional[Element]:
+        """Example: `"C"` of `extern "C"`."""
+        return token(self, "STRING")
 
 
 class AssocItemList(HasAttrs):
     """The items of a trait or an implementation with their braces."""
 
     KIND = "ASSOC_ITEM_LIST"
-    assoc_items: List[AssocItem] = every("AssocItem", "Example: `fn f() {}` of `{ fn f() {} }`.")
-    l_curly_token: Optional[Element] = token("L_CURLY", "Example: `{` of `{ fn f() {} }`.")
-    r_curly_token: Optional[Element] = token("R_CURLY", "Example: `}` of `{ fn f() {} }`.")
+
+    @property
+    def assoc_items(self) -> List[AssocItem]:
+        """Example: `fn f() {}` of `{ fn f() {} }`."""
+        return every(self, "AssocItem")
+
+    @property
+    def l_curly_token(self) -> Optional[Element]:
+        """Example: `{` of `{ fn f() {} }`."""
+        return token(self, "L_CURLY")
+
+    @property
+    def r_curly_token(self) -> Optional[Element]:
+        """Example: `}` of `{ fn f() {} }`."""
+        return token(self, "R_CURLY")
 
 
 class ExternItemList(HasAttrs):
     """The items of an `extern` block with their braces."""
 
     KIND = "EXTERN_ITEM_LIST"
-    extern_items: List[ExternItem] = every("ExternItem", "Example: `fn f();` of `{ fn f(); }`.")
-    l_curly_token: Optional[Element] = token("L_CURLY", "Example: `{` of `{ fn f(); }`.")
-    r_curly_token: Optional[Element] = token("R_CURLY", "Example: `}` of `{ fn f(); }`.")
+
+    @property
+    def extern_items(self) -> List[ExternItem]:
+        """Example: `fn f();` of `{ fn f(); }`."""
+        return every(self, "ExternItem")
+
+    @property
+    def l_curly_token(self) -> Optional[Element]:
+        """Example: `{` of `{ fn f(); }`."""
+        return token(self, "L_CURLY")
+
+    @property
+    def r_curly_token(self) -> Optional[Element]:
+        """Example: `}` of `{ fn f(); }`."""
+        return token(self, "R_CURLY")
 
 
 class ItemList(HasModuleItem, HasAttrs):
     """The items of a module with their braces."""
 
     KIND = "ITEM_LIST"
-    l_curly_token: Optional[Element] = token("L_CURLY", "Example: `{` of `{ fn f() {} }`.")
-    r_curly_token: Optional[Element] = token("R_CURLY", "Example: `}` of `{ fn f() {} }`.")
+
+    @property
+    def l_curly_token(self) -> Optional[Element]:
+        """Example: `{` of `{ fn f() {} }`."""
+        return token(self, "L_CURLY")
+
+    @property
+    def r_curly_token(self) -> Optional[Element]:
+        """Example: `}` of `{ fn f() {} }`."""
+        return token(self, "R_CURLY")
 
 
 class MacroStmts(View):
     """The statements that a macro expands to."""
 
     KIND = "MACRO_STMTS"
-    expr: Optional[Expr] = first("Expr", "Its expr.")
-    statements: List[Stmt] = every("Stmt", "Its statements.")
+
+    @property
+    def expr(self) -> Optional[Expr]:
+        """Its expr."""
+        return first(self, "Expr")
+
+    @property
+    def statements(self) -> List[Stmt]:
+        """Its statements."""
+        return every(self, "Stmt")
 
 
 class Param(HasAttrs):
     """A parameter: `a: T`."""
 
     KIND = "PARAM"
-    colon_token: Optional[Element] = token("COLON", "Example: `:` of `a: T`.")
-    dotdotdot_token: Optional[Element] = token("DOT3", "Example: `...` of `...`.")
-    pat: Optional[Pat] = first("Pat", "Example: `a` of `a: T`.")
-    ty: Optional[Type] = first("Type", "Example: `T` of `a: T`.")
+
+    @property
+    def colon_token(self) -> Optional[Element]:
+        """Example: `:` of `a: T`."""
+        return token(self, "COLON")
+
+    @property
+    def dotdotdot_token(self) -> Optional[Element]:
+        """Example: `...` of `...`."""
+        return token(self, "DOT3")
+
+    @property
+    def pat(self) -> Optional[Pat]:
+        """Example: `a` of `a: T`."""
+        return first(self, "Pat")
+
+    @property
+    def ty(self) -> Optional[Type]:
+        """Example: `T` of `a: T`."""
+        return first(self, "Type")
 
 
 class ParamList(View):
     """The parameters of a function or closure: `(&self, a: T)`, `|a|`."""
 
     KIND = "PARAM_LIST"
-    comma_token: Optional[Element] = token("COMMA", "Example: `,` of `(self, a: T, b: U)`.")
-    l_paren_token: Optional[Element] = token("L_PAREN", "Example: `(` of `(self, a: T, b: U)`.")
-    params: List[Param] = every("Param", "Example: `a: T` and `b: U` of `(self, a: T, b: U)`.")
-    pipe_token: Optional[Element] = token("PIPE", "Example: `|` of `|a, b|`.")
-    r_paren_token: Optional[Element] = token("R_PAREN", "Example: `)` of `(self, a: T, b: U)`.")
-    self_param: Optional[SelfParam] = first("SelfParam", "Example: `self` of `(self, a: T, b: U)`.")
+
+    @property
+    def comma_token(self) -> Optional[Element]:
+        """Example: `,` of `(self, a: T, b: U)`."""
+        return token(self, "COMMA")
+
+    @property
+    def l_paren_token(self) -> Optional[Element]:
+        """Example: `(` of `(self, a: T, b: U)`."""
+        return token(self, "L_PAREN")
+
+    @property
+    def params(self) -> List[Param]:
+        """Example: `a: T` and `b: U` of `(self, a: T, b: U)`."""
+        return every(self, "Param")
+
+    @property
+    def pipe_token(self) -> Optional[Element]:
+        """Example: `|` of `|a, b|`."""
+        return token(self, "PIPE")
+
+    @property
+    def r_paren_token(self) -> Optional[Element]:
+        """Example: `)` of `(self, a: T, b: U)`."""
+        return token(self, "R_PAREN")
+
+    @property
+    def self_param(self) -> Optional[SelfParam]:
+        """Example: `self` of `(self, a: T, b: U)`."""
+        return first(self, "SelfParam")
 
 
 class RecordField(HasName, HasVisibility, HasAttrs):
     """A named field of a type: `pub f: T`."""
 
     KIND = "RECORD_FIELD"
-    colon_token: Optional[Element] = token("COLON", "Example: `:` of `f: T = 1`.")
-    default_val: Optional[ConstArg] = first("ConstArg", "Example: `1` of `f: T = 1`.")
-    eq_token: Optional[Element] = token("EQ", "Example: `=` of `f: T = 1`.")
-    ty: Optional[Type] = first("Type", "Example: `T` of `f: T = 1`.")
-    unsafe_token: Optional[Element] = token("UNSAFE_KW", "Example: `unsafe` of `unsafe f: T`.")
+
+    @property
+    def colon_token(self) -> Optional[Element]:
+        """Example: `:` of `f: T = 1`."""
+        return token(self, "COLON")
+
+    @property
+    def default_val(self) -> Optional[ConstArg]:
+        """Example: `1` of `f: T = 1`."""
+        return first(self, "ConstArg")
+
+    @property
+    def eq_token(self) -> Optional[Element]:
+        """Example: `=` of `f: T = 1`."""
+        return token(self, "EQ")
+
+    @property
+    def ty(self) -> Optional[Type]:
+        """Example: `T` of `f: T = 1`."""
+        return first(self, "Type")
+
+    @property
+    def unsafe_token(self) -> Optional[Element]:
+        """Example: `unsafe` of `unsafe f: T`."""
+        return token(self, "UNSAFE_KW")
 
 
 class RecordFieldList(FieldList):
     """The named fields of a type with their braces."""
 
     KIND = "RECORD_FIELD_LIST"
-    fields: List[RecordField] = every("RecordField", "Example: `f: T` and `g: U` of `{ f: T, g: U }`.")
-    l_curly_token: Optional[Element] = token("L_CURLY", "Example: `{` of `{ f: T, g: U }`.")
-    r_curly_token: Optional[Element] = token("R_CURLY", "Example: `}` of `{ f: T, g: U }`.")
+
+    @property
+    def fields(self) -> List[RecordField]:
+        """Example: `f: T` and `g: U` of `{ f: T, g: U }`."""
+        return every(self, "RecordField")
+
+    @property
+    def l_curly_token(self) -> Optional[Element]:
+        """Example: `{` of `{ f: T, g: U }`."""
+        return token(self, "L_CURLY")
+
+    @property
+    def r_curly_token(self) -> Optional[Element]:
+        """Example: `}` of `{ f: T, g: U }`."""
+        return token(self, "R_CURLY")
 
 
 class SelfParam(HasName, HasAttrs):
     """The receiver: `&mut self`, `self: T`."""
 
     KIND = "SELF_PARAM"
-    amp_token: Optional[Element] = token("AMP", "Example: `&` of `&'a mut self`.")
-    colon_token: Optional[Element] = token("COLON", "Example: `:` of `self: T`.")
-    lifetime: Optional[Lifetime] = first("Lifetime", "Example: `'a` of `&'a mut self`.")
-    mut_token: Optional[Element] = token("MUT_KW", "Example: `mut` of `&'a mut self`.")
-    ty: Optional[Type] = first("Type", "Example: `T` of `self: T`.")
+
+    @property
+    def amp_token(self) -> Optional[Element]:
+        """Example: `&` of `&'a mut self`."""
+        return token(self, "AMP")
+
+    @property
+    def colon_token(self) -> Optional[Element]:
+        """Example: `:` of `self: T`."""
+        return token(self, "COLON")
+
+    @property
+    def lifetime(self) -> Optional[Lifetime]:
+        """Example: `'a` of `&'a mut self`."""
+        return first(self, "Lifetime")
+
+    @property
+    def mut_token(self) -> Optional[Element]:
+        """Example: `mut` of `&'a mut self`."""
+        return token(self, "MUT_KW")
+
+    @property
+    def ty(self) -> Optional[Type]:
+        """Example: `T` of `self: T`."""
+        return first(self, "Type")
 
 
 class TupleField(HasVisibility, HasAttrs):
     """A field of a tuple struct: `pub T`."""
 
     KIND = "TUPLE_FIELD"
-    ty: Optional[Type] = first("Type", "Example: `T` of `T`.")
+
+    @property
+    def ty(self) -> Optional[Type]:
+        """Example: `T` of `T`."""
+        return first(self, "Type")
 
 
 class TupleFieldList(FieldList):
     """The fields of a tuple struct with their parentheses."""
 
     KIND = "TUPLE_FIELD_LIST"
-    fields: List[TupleField] = every("TupleField", "Example: `T` and `U` of `(T, U)`.")
-    l_paren_token: Optional[Element] = token("L_PAREN", "Example: `(` of `(T, U)`.")
-    r_paren_token: Optional[Element] = token("R_PAREN", "Example: `)` of `(T, U)`.")
+
+    @property
+    def fields(self) -> List[TupleField]:
+        """Example: `T` and `U` of `(T, U)`."""
+        return every(self, "TupleField")
+
+    @property
+    def l_paren_token(self) -> Optional[Element]:
+        """Example: `(` of `(T, U)`."""
+        return token(self, "L_PAREN")
+
+    @property
+    def r_paren_token(self) -> Optional[Element]:
+        """Example: `)` of `(T, U)`."""
+        return token(self, "R_PAREN")
 
 
 class UseTree(View):
     """A tree of imports: `a::{b, c as d}`, `a::*`."""
 
     KIND = "USE_TREE"
-    coloncolon_token: Optional[Element] = token("COLON2", "Example: `::` of `a::{b, c}`.")
-    path: Optional[Path] = first("Path", "Example: `a` of `a::{b, c}`.")
-    rename: Optional[Rename] = first("Rename", "Example: `as b` of `a as b`.")
-    star_token: Optional[Element] = token("STAR", "Example: `*` of `a::*`.")
-    use_tree_list: Optional[UseTreeList] = first("UseTreeList", "Example: `{b, c}` of `a::{b, c}`.")
+
+    @property
+    def coloncolon_token(self) -> Optional[Element]:
+        """Example: `::` of `a::{b, c}`."""
+        return token(self, "COLON2")
+
+    @property
+    def path(self) -> Optional[Path]:
+        """Example: `a` of `a::{b, c}`."""
+        return first(self, "Path")
+
+    @property
+    def rename(self) -> Optional[Rename]:
+        """Example: `as b` of `a as b`."""
+        return first(self, "Rename")
+
+    @property
+    def star_token(self) -> Optional[Element]:
+        """Example: `*` of `a::*`."""
+        return token(self, "STAR")
+
+    @property
+    def use_tree_list(self) -> Optional[UseTreeList]:
+        """Example: `{b, c}` of `a::{b, c}`."""
+        return first(self, "UseTreeList")
 
 
 class UseTreeList(View):
     """The trees in braces: `{b, c}`."""
 
     KIND = "USE_TREE_LIST"
-    l_curly_token: Optional[Element] = token("L_CURLY", "Example: `{` of `{b, c}`.")
-    r_curly_token: Optional[Element] = token("R_CURLY", "Example: `}` of `{b, c}`.")
-    use_trees: List[UseTree] = every("UseTree", "Example: `b` and `c` of `{b, c}`.")
+
+    @property
+    def l_curly_token(self) -> Optional[Element]:
+        """Example: `{` of `{b, c}`."""
+        return token(self, "L_CURLY")
+
+    @property
+    def r_curly_token(self) -> Optional[Element]:
+        """Example: `}` of `{b, c}`."""
+        return token(self, "R_CURLY")
+
+    @property
+    def use_trees(self) -> List[UseTree]:
+        """Example: `b` and `c` of `{b, c}`."""
+        return every(self, "UseTree")
 
 
 class Variant(VariantDef, HasName, HasVisibility, HasAttrs):
     """A variant of an enum: `A(T) = 1`."""
 
     KIND = "VARIANT"
-    const_arg: Optional[ConstArg] = first("ConstArg", "Example: `1` of `A = 1`.")
-    eq_token: Optional[Element] = token("EQ", "Example: `=` of `A = 1`.")
-    field_list: Optional[FieldList] = first("FieldList", "Example: `(T)` of `A(T)`.")
+
+    @property
+    def const_arg(self) -> Optional[ConstArg]:
+        """Example: `1` of `A = 1`."""
+        return first(self, "ConstArg")
+
+    @property
+    def eq_token(self) -> Optional[Element]:
+        """Example: `=` of `A = 1`."""
+        return token(self, "EQ")
+
+    @property
+    def field_list(self) -> Optional[FieldList]:
+        """Example: `(T)` of `A(T)`."""
+        return first(self, "FieldList")
 
 
 class Visibility(View):
     """A visibility: `pub`, `pub(in a)`."""
 
     KIND = "VISIBILITY"
-    pub_token: Optional[Element] = token("PUB_KW", "Example: `pub` of `pub(in a)`.")
-    visibility_inner: Optional[VisibilityInner] = first("VisibilityInner", "Example: `(in a)` of `pub(in a)`.")
+
+    @property
+    def pub_token(self) -> Optional[Element]:
+        """Example: `pub` of `pub(in a)`."""
+        return token(self, "PUB_KW")
+
+    @property
+    def visibility_inner(self) -> Optional[VisibilityInner]:
+        """Example: `(in a)` of `pub(in a)`."""
+        return first(self, "VisibilityInner")
 
 
 class VisibilityInner(View):
     """The part of a visibility in parentheses: `(crate)`, `(in a)`."""
 
     KIND = "VISIBILITY_INNER"
-    in_token: Optional[Element] = token("IN_KW", "Example: `in` of `(in a)`.")
-    l_paren_token: Optional[Element] = token("L_PAREN", "Example: `(` of `(in a)`.")
-    path: Optional[Path] = first("Path", "Example: `a` of `(in a)`.")
-    r_paren_token: Optional[Element] = token("R_PAREN", "Example: `)` of `(in a)`.")
+
+    @property
+    def in_token(self) -> Optional[Element]:
+        """Example: `in` of `(in a)`."""
+        return token(self, "IN_KW")
+
+    @property
+    def l_paren_token(self) -> Optional[Element]:
+        """Example: `(` of `(in a)`."""
+        return token(self, "L_PAREN")
+
+    @property
+    def path(self) -> Optional[Path]:
+        """Example: `a` of `(in a)`."""
+        return first(self, "Path")
+
+    @property
+    def r_paren_token(self) -> Optional[Element]:
+        """Example: `)` of `(in a)`."""
+        return token(self, "R_PAREN")

@@ -15,65 +15,133 @@ class BoxPat(Pat):
     """`box p`."""
 
     KIND = "BOX_PAT"
-    box_token: Optional[Element] = token("BOX_KW", "Example: `box` of `box p`.")
-    pat: Optional[Pat] = first("Pat", "Example: `p` of `box p`.")
+
+    @property
+    def box_token(self) -> Optional[Element]:
+        """Example: `box` of `box p`."""
+        return token(self, "BOX_KW")
+
+    @property
+    def pat(self) -> Optional[Pat]:
+        """Example: `p` of `box p`."""
+        return first(self, "Pat")
 
 
 class ConstBlockPat(Pat):
     """A constant block as a pattern: `const { .. }`."""
 
     KIND = "CONST_BLOCK_PAT"
-    block_expr: Optional[BlockExpr] = first("BlockExpr", "Example: `{ b }` of `const { b }`.")
-    const_token: Optional[Element] = token("CONST_KW", "Example: `const` of `const { b }`.")
+
+    @property
+    def block_expr(self) -> Optional[BlockExpr]:
+        """Example: `{ b }` of `const { b }`."""
+        return first(self, "BlockExpr")
+
+    @property
+    def const_token(self) -> Optional[Element]:
+        """Example: `const` of `const { b }`."""
+        return token(self, "CONST_KW")
 
 
 class IdentPat(Pat, HasName):
     """A name that is bound: `ref mut x @ p`."""
 
     KIND = "IDENT_PAT"
-    at_token: Optional[Element] = token("AT", "Example: `@` of `ref mut x @ p`.")
-    mut_token: Optional[Element] = token("MUT_KW", "Example: `mut` of `ref mut x @ p`.")
-    pat: Optional[Pat] = first("Pat", "Example: `p` of `ref mut x @ p`.")
-    ref_token: Optional[Element] = token("REF_KW", "Example: `ref` of `ref mut x @ p`.")
+
+    @property
+    def at_token(self) -> Optional[Element]:
+        """Example: `@` of `ref mut x @ p`."""
+        return token(self, "AT")
+
+    @property
+    def mut_token(self) -> Optional[Element]:
+        """Example: `mut` of `ref mut x @ p`."""
+        return token(self, "MUT_KW")
+
+    @property
+    def pat(self) -> Optional[Pat]:
+        """Example: `p` of `ref mut x @ p`."""
+        return first(self, "Pat")
+
+    @property
+    def ref_token(self) -> Optional[Element]:
+        """Example: `ref` of `ref mut x @ p`."""
+        return token(self, "REF_KW")
 
 
 class LiteralPat(Pat):
     """A literal as a pattern."""
 
     KIND = "LITERAL_PAT"
-    literal: Optional[Literal] = first("Literal", "Example: `1` of `-1`.")
-    minus_token: Optional[Element] = token("MINUS", "Example: `-` of `-1`.")
+
+    @property
+    def literal(self) -> Optional[Literal]:
+        """Example: `1` of `-1`."""
+        return first(self, "Literal")
+
+    @property
+    def minus_token(self) -> Optional[Element]:
+        """Example: `-` of `-1`."""
+        return token(self, "MINUS")
 
 
 class MacroPat(Pat):
     """A macro call as a pattern."""
 
     KIND = "MACRO_PAT"
-    macro_call: Optional[MacroCall] = first("MacroCall", "Example: `m!(a)` of `m!(a)`.")
+
+    @property
+    def macro_call(self) -> Optional[MacroCall]:
+        """Example: `m!(a)` of `m!(a)`."""
+        return first(self, "MacroCall")
 
 
 class OrPat(Pat):
     """Alternatives: `p | q`."""
 
     KIND = "OR_PAT"
-    pats: List[Pat] = every("Pat", "Example: `p` and `q` of `p | q`.")
-    pipe_token: Optional[Element] = token("PIPE", "Example: `|` of `p | q`.")
+
+    @property
+    def pats(self) -> List[Pat]:
+        """Example: `p` and `q` of `p | q`."""
+        return every(self, "Pat")
+
+    @property
+    def pipe_token(self) -> Optional[Element]:
+        """Example: `|` of `p | q`."""
+        return token(self, "PIPE")
 
 
 class ParenPat(Pat):
     """A pattern in parentheses: `(p)`."""
 
     KIND = "PAREN_PAT"
-    l_paren_token: Optional[Element] = token("L_PAREN", "Example: `(` of `(p)`.")
-    pat: Optional[Pat] = first("Pat", "Example: `p` of `(p)`.")
-    r_paren_token: Optional[Element] = token("R_PAREN", "Example: `)` of `(p)`.")
+
+    @property
+    def l_paren_token(self) -> Optional[Element]:
+        """Example: `(` of `(p)`."""
+        return token(self, "L_PAREN")
+
+    @property
+    def pat(self) -> Optional[Pat]:
+        """Example: `p` of `(p)`."""
+        return first(self, "Pat")
+
+    @property
+    def r_paren_token(self) -> Optional[Element]:
+        """Example: `)` of `(p)`."""
+        return token(self, "R_PAREN")
 
 
 class PathPat(Pat):
     """A path as a pattern."""
 
     KIND = "PATH_PAT"
-    path: Optional[Path] = first("Path", "Example: `a::b` of `a::b`.")
+
+    @property
+    def path(self) -> Optional[Path]:
+        """Example: `a::b` of `a::b`."""
+        return first(self, "Path")
 
 
 class RangePat(Pat):
@@ -86,75 +154,171 @@ class RecordPat(Pat):
     """A struct and patterns of its fields: `S { f: p, .. }`."""
 
     KIND = "RECORD_PAT"
-    path: Optional[Path] = first("Path", "Example: `S` of `S { f: p, .. }`.")
-    record_pat_field_list: Optional[RecordPatFieldList] = first("RecordPatFieldList", "Example: `{ f: p, .. }` of `S { f: p, .. }`.")
+
+    @property
+    def path(self) -> Optional[Path]:
+        """Example: `S` of `S { f: p, .. }`."""
+        return first(self, "Path")
+
+    @property
+    def record_pat_field_list(self) -> Optional[RecordPatFieldList]:
+        """Example: `{ f: p, .. }` of `S { f: p, .. }`."""
+        return first(self, "RecordPatFieldList")
 
 
 class RecordPatField(HasAttrs):
     """A field of a struct that is matched: `f: p`."""
 
     KIND = "RECORD_PAT_FIELD"
-    colon_token: Optional[Element] = token("COLON", "Example: `:` of `f: p`.")
-    name_ref: Optional[NameRef] = first("NameRef", "Example: `f` of `f: p`.")
-    pat: Optional[Pat] = first("Pat", "Example: `p` of `f: p`.")
+
+    @property
+    def colon_token(self) -> Optional[Element]:
+        """Example: `:` of `f: p`."""
+        return token(self, "COLON")
+
+    @property
+    def name_ref(self) -> Optional[NameRef]:
+        """Example: `f` of `f: p`."""
+        return first(self, "NameRef")
+
+    @property
+    def pat(self) -> Optional[Pat]:
+        """Example: `p` of `f: p`."""
+        return first(self, "Pat")
 
 
 class RecordPatFieldList(View):
     """The fields of a struct that is matched, with their braces: `{ f: p, .. }`."""
 
     KIND = "RECORD_PAT_FIELD_LIST"
-    fields: List[RecordPatField] = every("RecordPatField", "Example: `f: p` of `{ f: p, .. }`.")
-    l_curly_token: Optional[Element] = token("L_CURLY", "Example: `{` of `{ f: p, .. }`.")
-    r_curly_token: Optional[Element] = token("R_CURLY", "Example: `}` of `{ f: p, .. }`.")
-    rest_pat: Optional[RestPat] = first("RestPat", "Example: `..` of `{ f: p, .. }`.")
+
+    @property
+    def fields(self) -> List[RecordPatField]:
+        """Example: `f: p` of `{ f: p, .. }`."""
+        return every(self, "RecordPatField")
+
+    @property
+    def l_curly_token(self) -> Optional[Element]:
+        """Example: `{` of `{ f: p, .. }`."""
+        return token(self, "L_CURLY")
+
+    @property
+    def r_curly_token(self) -> Optional[Element]:
+        """Example: `}` of `{ f: p, .. }`."""
+        return token(self, "R_CURLY")
+
+    @property
+    def rest_pat(self) -> Optional[RestPat]:
+        """Example: `..` of `{ f: p, .. }`."""
+        return first(self, "RestPat")
 
 
 class RefPat(Pat):
     """A reference pattern: `&p`."""
 
     KIND = "REF_PAT"
-    amp_token: Optional[Element] = token("AMP", "Example: `&` of `&mut p`.")
-    mut_token: Optional[Element] = token("MUT_KW", "Example: `mut` of `&mut p`.")
-    pat: Optional[Pat] = first("Pat", "Example: `p` of `&mut p`.")
+
+    @property
+    def amp_token(self) -> Optional[Element]:
+        """Example: `&` of `&mut p`."""
+        return token(self, "AMP")
+
+    @property
+    def mut_token(self) -> Optional[Element]:
+        """Example: `mut` of `&mut p`."""
+        return token(self, "MUT_KW")
+
+    @property
+    def pat(self) -> Optional[Pat]:
+        """Example: `p` of `&mut p`."""
+        return first(self, "Pat")
 
 
 class RestPat(Pat):
     """The rest: `..`."""
 
     KIND = "REST_PAT"
-    dotdot_token: Optional[Element] = token("DOT2", "Example: `..` of `..`.")
+
+    @property
+    def dotdot_token(self) -> Optional[Element]:
+        """Example: `..` of `..`."""
+        return token(self, "DOT2")
 
 
 class SlicePat(Pat):
     """A slice and patterns of its elements: `[p, .., q]`."""
 
     KIND = "SLICE_PAT"
-    l_brack_token: Optional[Element] = token("L_BRACK", "Example: `[` of `[p, q]`.")
-    pats: List[Pat] = every("Pat", "Example: `p` and `q` of `[p, q]`.")
-    r_brack_token: Optional[Element] = token("R_BRACK", "Example: `]` of `[p, q]`.")
+
+    @property
+    def l_brack_token(self) -> Optional[Element]:
+        """Example: `[` of `[p, q]`."""
+        return token(self, "L_BRACK")
+
+    @property
+    def pats(self) -> List[Pat]:
+        """Example: `p` and `q` of `[p, q]`."""
+        return every(self, "Pat")
+
+    @property
+    def r_brack_token(self) -> Optional[Element]:
+        """Example: `]` of `[p, q]`."""
+        return token(self, "R_BRACK")
 
 
 class TuplePat(Pat):
     """A tuple and patterns of its fields: `(p, q)`."""
 
     KIND = "TUPLE_PAT"
-    fields: List[Pat] = every("Pat", "Example: `p` and `q` of `(p, q)`.")
-    l_paren_token: Optional[Element] = token("L_PAREN", "Example: `(` of `(p, q)`.")
-    r_paren_token: Optional[Element] = token("R_PAREN", "Example: `)` of `(p, q)`.")
+
+    @property
+    def fields(self) -> List[Pat]:
+        """Example: `p` and `q` of `(p, q)`."""
+        return every(self, "Pat")
+
+    @property
+    def l_paren_token(self) -> Optional[Element]:
+        """Example: `(` of `(p, q)`."""
+        return token(self, "L_PAREN")
+
+    @property
+    def r_paren_token(self) -> Optional[Element]:
+        """Example: `)` of `(p, q)`."""
+        return token(self, "R_PAREN")
 
 
 class TupleStructPat(Pat):
     """A tuple struct and patterns of its fields: `S(p, q)`."""
 
     KIND = "TUPLE_STRUCT_PAT"
-    fields: List[Pat] = every("Pat", "Example: `p` and `q` of `S(p, q)`.")
-    l_paren_token: Optional[Element] = token("L_PAREN", "Example: `(` of `S(p, q)`.")
-    path: Optional[Path] = first("Path", "Example: `S` of `S(p, q)`.")
-    r_paren_token: Optional[Element] = token("R_PAREN", "Example: `)` of `S(p, q)`.")
+
+    @property
+    def fields(self) -> List[Pat]:
+        """Example: `p` and `q` of `S(p, q)`."""
+        return every(self, "Pat")
+
+    @property
+    def l_paren_token(self) -> Optional[Element]:
+        """Example: `(` of `S(p, q)`."""
+        return token(self, "L_PAREN")
+
+    @property
+    def path(self) -> Optional[Path]:
+        """Example: `S` of `S(p, q)`."""
+        return first(self, "Path")
+
+    @property
+    def r_paren_token(self) -> Optional[Element]:
+        """Example: `)` of `S(p, q)`."""
+        return token(self, "R_PAREN")
 
 
 class WildcardPat(Pat):
     """The pattern that takes all: `_`."""
 
     KIND = "WILDCARD_PAT"
-    underscore_token: Optional[Element] = token("UNDERSCORE", "Example: `_` of `_`.")
+
+    @property
+    def underscore_token(self) -> Optional[Element]:
+        """Example: `_` of `_`."""
+        return token(self, "UNDERSCORE")

@@ -13,59 +13,102 @@ if TYPE_CHECKING:
 class HasName(View):
     """A node with a name."""
 
-    name: Optional[Name] = first("Name", "Example: `f` of `fn f() {}`.")
+    @property
+    def name(self) -> Optional[Name]:
+        """Example: `f` of `fn f() {}`."""
+        return first(self, "Name")
 
 
 class HasVisibility(View):
     """A node that can have a visibility."""
 
-    visibility: Optional[Visibility] = first("Visibility", "Example: `pub` of `pub fn f() {}`.")
+    @property
+    def visibility(self) -> Optional[Visibility]:
+        """Example: `pub` of `pub fn f() {}`."""
+        return first(self, "Visibility")
 
 
 class HasLoopBody(View):
     """A loop."""
 
-    label: Optional[Label] = first("Label", "Example: `'a:` of `'a: loop {}`.")
+    @property
+    def label(self) -> Optional[Label]:
+        """Example: `'a:` of `'a: loop {}`."""
+        return first(self, "Label")
 
 
 class HasArgList(View):
     """A call."""
 
-    arg_list: Optional[ArgList] = first("ArgList", "Example: `(a)` of `f(a)`.")
+    @property
+    def arg_list(self) -> Optional[ArgList]:
+        """Example: `(a)` of `f(a)`."""
+        return first(self, "ArgList")
 
 
 class HasModuleItem(View):
     """A container of items."""
 
-    items: List[Item] = every("Item", "Example: `fn f() {}` and `struct S;` of `fn f() {} struct S;`.")
+    @property
+    def items(self) -> List[Item]:
+        """Example: `fn f() {}` and `struct S;` of `fn f() {} struct S;`."""
+        return every(self, "Item")
 
 
 class HasGenericParams(View):
     """A node that can have generic parameters."""
 
-    generic_param_list: Optional[GenericParamList] = first("GenericParamList", "Example: `<T>` of `fn f<T>() where T: U {}`.")
-    where_clause: Optional[WhereClause] = first("WhereClause", "Example: `where T: U` of `fn f<T>() where T: U {}`.")
+    @property
+    def generic_param_list(self) -> Optional[GenericParamList]:
+        """Example: `<T>` of `fn f<T>() where T: U {}`."""
+        return first(self, "GenericParamList")
+
+    @property
+    def where_clause(self) -> Optional[WhereClause]:
+        """Example: `where T: U` of `fn f<T>() where T: U {}`."""
+        return first(self, "WhereClause")
 
 
 class HasGenericArgs(View):
     """A node that can have generic arguments."""
 
-    generic_arg_list: Optional[GenericArgList] = first("GenericArgList", "Example: `::<T>` of `a.f::<T>()`.")
+    @property
+    def generic_arg_list(self) -> Optional[GenericArgList]:
+        """Example: `::<T>` of `a.f::<T>()`."""
+        return first(self, "GenericArgList")
 
 
 class HasTypeBounds(View):
     """A node that can have type bounds."""
 
-    colon_token: Optional[Element] = token("COLON", "Example: `:` of `T: U + V`.")
-    type_bound_list: Optional[TypeBoundList] = first("TypeBoundList", "Example: `U + V` of `T: U + V`.")
+    @property
+    def colon_token(self) -> Optional[Element]:
+        """Example: `:` of `T: U + V`."""
+        return token(self, "COLON")
+
+    @property
+    def type_bound_list(self) -> Optional[TypeBoundList]:
+        """Example: `U + V` of `T: U + V`."""
+        return first(self, "TypeBoundList")
 
 
 class HasAttrs(View):
     """A node that can have attributes and documentation."""
 
-    attrs: List[Attr] = every("Attr", "Example: `#[a]` and `#[b]` of `#[a] #[b]\\n/// c\\nfn f() {}`.")
-    attrs_with_doc: List[AnyAttr] = every("AnyAttr", "Example: `#[a]`, `#[b]` and `/// c` of `#[a] #[b]\\n/// c\\nfn f() {}`.")
-    doc_comments: List[DocComment] = every("DocComment", "Example: `/// c` of `#[a] #[b]\\n/// c\\nfn f() {}`.")
+    @property
+    def attrs(self) -> List[Attr]:
+        """Example: `#[a]` and `#[b]` of `#[a] #[b]\\n/// c\\nfn f() {}`."""
+        return every(self, "Attr")
+
+    @property
+    def attrs_with_doc(self) -> List[AnyAttr]:
+        """Example: `#[a]`, `#[b]` and `/// c` of `#[a] #[b]\\n/// c\\nfn f() {}`."""
+        return every(self, "AnyAttr")
+
+    @property
+    def doc_comments(self) -> List[DocComment]:
+        """Example: `/// c` of `#[a] #[b]\\n/// c\\nfn f() {}`."""
+        return every(self, "DocComment")
 
 
 class Adt(HasAttrs):
@@ -123,12 +166,35 @@ class Macro(HasName, HasAttrs):
 class Meta(View):
     """The contents of an attribute."""
 
-    eq_token: Optional[Element] = token("EQ", "Example: `=` of `a = b`.")
-    expr: Optional[Expr] = first("Expr", "Example: `b` of `a = b`.")
-    l_paren_token: Optional[Element] = token("L_PAREN", "Example: `(` of `unsafe(m)`.")
-    r_paren_token: Optional[Element] = token("R_PAREN", "Example: `)` of `unsafe(m)`.")
-    token_tree: Optional[TokenTree] = first("TokenTree", "Example: `(b)` of `a(b)`.")
-    unsafe_token: Optional[Element] = token("UNSAFE_KW", "Example: `unsafe` of `unsafe(m)`.")
+    @property
+    def eq_token(self) -> Optional[Element]:
+        """Example: `=` of `a = b`."""
+        return token(self, "EQ")
+
+    @property
+    def expr(self) -> Optional[Expr]:
+        """Example: `b` of `a = b`."""
+        return first(self, "Expr")
+
+    @property
+    def l_paren_token(self) -> Optional[Element]:
+        """Example: `(` of `unsafe(m)`."""
+        return token(self, "L_PAREN")
+
+    @property
+    def r_paren_token(self) -> Optional[Element]:
+        """Example: `)` of `unsafe(m)`."""
+        return token(self, "R_PAREN")
+
+    @property
+    def token_tree(self) -> Optional[TokenTree]:
+        """Example: `(b)` of `a(b)`."""
+        return first(self, "TokenTree")
+
+    @property
+    def unsafe_token(self) -> Optional[Element]:
+        """Example: `unsafe` of `unsafe(m)`."""
+        return token(self, "UNSAFE_KW")
 
 
 class NameLike(View):

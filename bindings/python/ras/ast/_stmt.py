@@ -15,109 +15,269 @@ class ArgList(View):
     """The arguments of a call: `(a, b)`."""
 
     KIND = "ARG_LIST"
-    args: List[Expr] = every("Expr", "Example: `a` and `b` of `(a, b)`.")
-    l_paren_token: Optional[Element] = token("L_PAREN", "Example: `(` of `(a, b)`.")
-    r_paren_token: Optional[Element] = token("R_PAREN", "Example: `)` of `(a, b)`.")
+
+    @property
+    def args(self) -> List[Expr]:
+        """Example: `a` and `b` of `(a, b)`."""
+        return every(self, "Expr")
+
+    @property
+    def l_paren_token(self) -> Optional[Element]:
+        """Example: `(` of `(a, b)`."""
+        return token(self, "L_PAREN")
+
+    @property
+    def r_paren_token(self) -> Optional[Element]:
+        """Example: `)` of `(a, b)`."""
+        return token(self, "R_PAREN")
 
 
 class ExprStmt(Stmt):
     """An expression that is a statement: `a;`."""
 
     KIND = "EXPR_STMT"
-    expr: Optional[Expr] = first("Expr", "Example: `a` of `a;`.")
-    semicolon_token: Optional[Element] = token("SEMICOLON", "Example: `;` of `a;`.")
+
+    @property
+    def expr(self) -> Optional[Expr]:
+        """Example: `a` of `a;`."""
+        return first(self, "Expr")
+
+    @property
+    def semicolon_token(self) -> Optional[Element]:
+        """Example: `;` of `a;`."""
+        return token(self, "SEMICOLON")
 
 
 class FormatArgsArg(View):
     """An argument of `format_args`: `x = a`."""
 
     KIND = "FORMAT_ARGS_ARG"
-    arg_name: Optional[FormatArgsArgName] = first("FormatArgsArgName", "Example: `a =` of `a = b`.")
-    expr: Optional[Expr] = first("Expr", "Example: `b` of `a = b`.")
+
+    @property
+    def arg_name(self) -> Optional[FormatArgsArgName]:
+        """Example: `a =` of `a = b`."""
+        return first(self, "FormatArgsArgName")
+
+    @property
+    def expr(self) -> Optional[Expr]:
+        """Example: `b` of `a = b`."""
+        return first(self, "Expr")
 
 
 class Label(View):
     """A label: `'a:`."""
 
     KIND = "LABEL"
-    colon_token: Optional[Element] = token("COLON", "Example: `:` of `'a:`.")
-    lifetime: Optional[Lifetime] = first("Lifetime", "Example: `'a` of `'a:`.")
+
+    @property
+    def colon_token(self) -> Optional[Element]:
+        """Example: `:` of `'a:`."""
+        return token(self, "COLON")
+
+    @property
+    def lifetime(self) -> Optional[Lifetime]:
+        """Example: `'a` of `'a:`."""
+        return first(self, "Lifetime")
 
 
 class LetElse(View):
     """The `else { .. }` of a `let`."""
 
     KIND = "LET_ELSE"
-    block_expr: Optional[BlockExpr] = first("BlockExpr", "Example: `{ b }` of `else { b }`.")
-    else_token: Optional[Element] = token("ELSE_KW", "Example: `else` of `else { b }`.")
+
+    @property
+    def block_expr(self) -> Optional[BlockExpr]:
+        """Example: `{ b }` of `else { b }`."""
+        return first(self, "BlockExpr")
+
+    @property
+    def else_token(self) -> Optional[Element]:
+        """Example: `else` of `else { b }`."""
+        return token(self, "ELSE_KW")
 
 
 class LetStmt(Stmt, HasAttrs):
     """`let p: T = a else { .. };`."""
 
     KIND = "LET_STMT"
-    colon_token: Optional[Element] = token("COLON", "Example: `:` of `let p: T = a else { b };`.")
-    eq_token: Optional[Element] = token("EQ", "Example: `=` of `let p: T = a else { b };`.")
-    initializer: Optional[Expr] = first("Expr", "Example: `a` of `let p: T = a else { b };`.")
-    let_else: Optional[LetElse] = first("LetElse", "Example: `else { b }` of `let p: T = a else { b };`.")
-    let_token: Optional[Element] = token("LET_KW", "Example: `let` of `let p: T = a else { b };`.")
-    pat: Optional[Pat] = first("Pat", "Example: `p` of `let p: T = a else { b };`.")
-    semicolon_token: Optional[Element] = token("SEMICOLON", "Example: `;` of `let p: T = a else { b };`.")
-    super_token: Optional[Element] = token("SUPER_KW", "Example: `super` of `super let p = a;`.")
-    ty: Optional[Type] = first("Type", "Example: `T` of `let p: T = a else { b };`.")
+
+    @property
+    def colon_token(self) -> Optional[Element]:
+        """Example: `:` of `let p: T = a else { b };`."""
+        return token(self, "COLON")
+
+    @property
+    def eq_token(self) -> Optional[Element]:
+        """Example: `=` of `let p: T = a else { b };`."""
+        return token(self, "EQ")
+
+    @property
+    def initializer(self) -> Optional[Expr]:
+        """Example: `a` of `let p: T = a else { b };`."""
+        return first(self, "Expr")
+
+    @property
+    def let_else(self) -> Optional[LetElse]:
+        """Example: `else { b }` of `let p: T = a else { b };`."""
+        return first(self, "LetElse")
+
+    @property
+    def let_token(self) -> Optional[Element]:
+        """Example: `let` of `let p: T = a else { b };`."""
+        return token(self, "LET_KW")
+
+    @property
+    def pat(self) -> Optional[Pat]:
+        """Example: `p` of `let p: T = a else { b };`."""
+        return first(self, "Pat")
+
+    @property
+    def semicolon_token(self) -> Optional[Element]:
+        """Example: `;` of `let p: T = a else { b };`."""
+        return token(self, "SEMICOLON")
+
+    @property
+    def super_token(self) -> Optional[Element]:
+        """Example: `super` of `super let p = a;`."""
+        return token(self, "SUPER_KW")
+
+    @property
+    def ty(self) -> Optional[Type]:
+        """Example: `T` of `let p: T = a else { b };`."""
+        return first(self, "Type")
 
 
 class MatchArm(HasAttrs):
     """An arm of a `match`: `p if a => b,`."""
 
     KIND = "MATCH_ARM"
-    comma_token: Optional[Element] = token("COMMA", "Example: `,` of `p if a => b,`.")
-    expr: Optional[Expr] = first("Expr", "Example: `b` of `p if a => b,`.")
-    fat_arrow_token: Optional[Element] = token("FAT_ARROW", "Example: `=>` of `p if a => b,`.")
-    guard: Optional[MatchGuard] = first("MatchGuard", "Example: `if a` of `p if a => b,`.")
-    pat: Optional[Pat] = first("Pat", "Example: `p` of `p if a => b,`.")
+
+    @property
+    def comma_token(self) -> Optional[Element]:
+        """Example: `,` of `p if a => b,`."""
+        return token(self, "COMMA")
+
+    @property
+    def expr(self) -> Optional[Expr]:
+        """Example: `b` of `p if a => b,`."""
+        return first(self, "Expr")
+
+    @property
+    def fat_arrow_token(self) -> Optional[Element]:
+        """Example: `=>` of `p if a => b,`."""
+        return token(self, "FAT_ARROW")
+
+    @property
+    def guard(self) -> Optional[MatchGuard]:
+        """Example: `if a` of `p if a => b,`."""
+        return first(self, "MatchGuard")
+
+    @property
+    def pat(self) -> Optional[Pat]:
+        """Example: `p` of `p if a => b,`."""
+        return first(self, "Pat")
 
 
 class MatchArmList(HasAttrs):
     """The arms of a `match` with their braces."""
 
     KIND = "MATCH_ARM_LIST"
-    arms: List[MatchArm] = every("MatchArm", "Example: `p => b,` and `q => c` of `{ p => b, q => c }`.")
-    l_curly_token: Optional[Element] = token("L_CURLY", "Example: `{` of `{ p => b, q => c }`.")
-    r_curly_token: Optional[Element] = token("R_CURLY", "Example: `}` of `{ p => b, q => c }`.")
+
+    @property
+    def arms(self) -> List[MatchArm]:
+        """Example: `p => b,` and `q => c` of `{ p => b, q => c }`."""
+        return every(self, "MatchArm")
+
+    @property
+    def l_curly_token(self) -> Optional[Element]:
+        """Example: `{` of `{ p => b, q => c }`."""
+        return token(self, "L_CURLY")
+
+    @property
+    def r_curly_token(self) -> Optional[Element]:
+        """Example: `}` of `{ p => b, q => c }`."""
+        return token(self, "R_CURLY")
 
 
 class MatchGuard(View):
     """The guard of an arm: `if a`."""
 
     KIND = "MATCH_GUARD"
-    condition: Optional[Expr] = first("Expr", "Example: `a` of `if a`.")
-    if_token: Optional[Element] = token("IF_KW", "Example: `if` of `if a`.")
+
+    @property
+    def condition(self) -> Optional[Expr]:
+        """Example: `a` of `if a`."""
+        return first(self, "Expr")
+
+    @property
+    def if_token(self) -> Optional[Element]:
+        """Example: `if` of `if a`."""
+        return token(self, "IF_KW")
 
 
 class RecordExprField(HasAttrs):
     """A field of a struct that is made: `f: a`."""
 
     KIND = "RECORD_EXPR_FIELD"
-    colon_token: Optional[Element] = token("COLON", "Example: `:` of `f: a`.")
-    expr: Optional[Expr] = first("Expr", "Example: `a` of `f: a`.")
-    name_ref: Optional[NameRef] = first("NameRef", "Example: `f` of `f: a`.")
+
+    @property
+    def colon_token(self) -> Optional[Element]:
+        """Example: `:` of `f: a`."""
+        return token(self, "COLON")
+
+    @property
+    def expr(self) -> Optional[Expr]:
+        """Example: `a` of `f: a`."""
+        return first(self, "Expr")
+
+    @property
+    def name_ref(self) -> Optional[NameRef]:
+        """Example: `f` of `f: a`."""
+        return first(self, "NameRef")
 
 
 class StmtList(HasModuleItem, HasAttrs):
     """The statements of a block with its braces: `{ a; b }`."""
 
     KIND = "STMT_LIST"
-    l_curly_token: Optional[Element] = token("L_CURLY", "Example: `{` of `{ a; fn g() {} b }`.")
-    r_curly_token: Optional[Element] = token("R_CURLY", "Example: `}` of `{ a; fn g() {} b }`.")
-    statements: List[Stmt] = every("Stmt", "Example: `a;` and `fn g() {}` of `{ a; fn g() {} b }`.")
-    tail_expr: Optional[Expr] = first("Expr", "Example: `b` of `{ a; fn g() {} b }`.")
+
+    @property
+    def l_curly_token(self) -> Optional[Element]:
+        """Example: `{` of `{ a; fn g() {} b }`."""
+        return token(self, "L_CURLY")
+
+    @property
+    def r_curly_token(self) -> Optional[Element]:
+        """Example: `}` of `{ a; fn g() {} b }`."""
+        return token(self, "R_CURLY")
+
+    @property
+    def statements(self) -> List[Stmt]:
+        """Example: `a;` and `fn g() {}` of `{ a; fn g() {} b }`."""
+        return every(self, "Stmt")
+
+    @property
+    def tail_expr(self) -> Optional[Expr]:
+        """Example: `b` of `{ a; fn g() {} b }`."""
+        return first(self, "Expr")
 
 
 class TryBlockModifier(View):
     """The `try` of a block, with its type: `try bikeshed T`."""
 
     KIND = "TRY_BLOCK_MODIFIER"
-    bikeshed_token: Optional[Element] = token("BIKESHED_KW", "Example: `bikeshed` of `try bikeshed T`.")
-    try_token: Optional[Element] = token("TRY_KW", "Example: `try` of `try bikeshed T`.")
-    ty: Optional[Type] = first("Type", "Example: `T` of `try bikeshed T`.")
+
+    @property
+    def bikeshed_token(self) -> Optional[Element]:
+        """Example: `bikeshed` of `try bikeshed T`."""
+        return token(self, "BIKESHED_KW")
+
+    @property
+    def try_token(self) -> Optional[Element]:
+        """Example: `try` of `try bikeshed T`."""
+        return token(self, "TRY_KW")
+
+    @property
+    def ty(self) -> Optional[Type]:
+        """Example: `T` of `try bikeshed T`."""
+        return first(self, "Type")

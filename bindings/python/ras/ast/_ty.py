@@ -15,128 +15,292 @@ class ArrayType(Type):
     """An array type: `[T; n]`."""
 
     KIND = "ARRAY_TYPE"
-    const_arg: Optional[ConstArg] = first("ConstArg", "Example: `1` of `[T; 1]`.")
-    l_brack_token: Optional[Element] = token("L_BRACK", "Example: `[` of `[T; 1]`.")
-    r_brack_token: Optional[Element] = token("R_BRACK", "Example: `]` of `[T; 1]`.")
-    semicolon_token: Optional[Element] = token("SEMICOLON", "Example: `;` of `[T; 1]`.")
-    ty: Optional[Type] = first("Type", "Example: `T` of `[T; 1]`.")
+
+    @property
+    def const_arg(self) -> Optional[ConstArg]:
+        """Example: `1` of `[T; 1]`."""
+        return first(self, "ConstArg")
+
+    @property
+    def l_brack_token(self) -> Optional[Element]:
+        """Example: `[` of `[T; 1]`."""
+        return token(self, "L_BRACK")
+
+    @property
+    def r_brack_token(self) -> Optional[Element]:
+        """Example: `]` of `[T; 1]`."""
+        return token(self, "R_BRACK")
+
+    @property
+    def semicolon_token(self) -> Optional[Element]:
+        """Example: `;` of `[T; 1]`."""
+        return token(self, "SEMICOLON")
+
+    @property
+    def ty(self) -> Optional[Type]:
+        """Example: `T` of `[T; 1]`."""
+        return first(self, "Type")
 
 
 class DynTraitType(Type):
     """A trait object type: `dyn T + U`."""
 
     KIND = "DYN_TRAIT_TYPE"
-    dyn_token: Optional[Element] = token("DYN_KW", "Example: `dyn` of `dyn T + U`.")
-    type_bound_list: Optional[TypeBoundList] = first("TypeBoundList", "Example: `T + U` of `dyn T + U`.")
+
+    @property
+    def dyn_token(self) -> Optional[Element]:
+        """Example: `dyn` of `dyn T + U`."""
+        return token(self, "DYN_KW")
+
+    @property
+    def type_bound_list(self) -> Optional[TypeBoundList]:
+        """Example: `T + U` of `dyn T + U`."""
+        return first(self, "TypeBoundList")
 
 
 class FnPtrType(Type):
     """A function pointer type: `fn(T) -> U`."""
 
     KIND = "FN_PTR_TYPE"
-    abi: Optional[Abi] = first("Abi", "Example: `extern \"C\"` of `unsafe extern \"C\" fn(T) -> U`.")
-    async_token: Optional[Element] = token("ASYNC_KW", "Its async token.")
-    const_token: Optional[Element] = token("CONST_KW", "Its const token.")
-    fn_token: Optional[Element] = token("FN_KW", "Example: `fn` of `unsafe extern \"C\" fn(T) -> U`.")
-    param_list: Optional[ParamList] = first("ParamList", "Example: `(T)` of `unsafe extern \"C\" fn(T) -> U`.")
-    ret_type: Optional[RetType] = first("RetType", "Example: `-> U` of `unsafe extern \"C\" fn(T) -> U`.")
-    unsafe_token: Optional[Element] = token("UNSAFE_KW", "Example: `unsafe` of `unsafe extern \"C\" fn(T) -> U`.")
+
+    @property
+    def abi(self) -> Optional[Abi]:
+        """Example: `extern "C"` of `unsafe extern "C" fn(T) -> U`."""
+        return first(self, "Abi")
+
+    @property
+    def async_token(self) -> Optional[Element]:
+        """Its async token."""
+        return token(self, "ASYNC_KW")
+
+    @property
+    def const_token(self) -> Optional[Element]:
+        """Its const token."""
+        return token(self, "CONST_KW")
+
+    @property
+    def fn_token(self) -> Optional[Element]:
+        """Example: `fn` of `unsafe extern "C" fn(T) -> U`."""
+        return token(self, "FN_KW")
+
+    @property
+    def param_list(self) -> Optional[ParamList]:
+        """Example: `(T)` of `unsafe extern "C" fn(T) -> U`."""
+        return first(self, "ParamList")
+
+    @property
+    def ret_type(self) -> Optional[RetType]:
+        """Example: `-> U` of `unsafe extern "C" fn(T) -> U`."""
+        return first(self, "RetType")
+
+    @property
+    def unsafe_token(self) -> Optional[Element]:
+        """Example: `unsafe` of `unsafe extern "C" fn(T) -> U`."""
+        return token(self, "UNSAFE_KW")
 
 
 class ForType(Type):
     """A type with bound lifetimes: `for<'a> fn(&'a T)`."""
 
     KIND = "FOR_TYPE"
-    for_binder: Optional[ForBinder] = first("ForBinder", "Example: `for<'a>` of `for<'a> fn(&'a T)`.")
-    ty: Optional[Type] = first("Type", "Example: `fn(&'a T)` of `for<'a> fn(&'a T)`.")
+
+    @property
+    def for_binder(self) -> Optional[ForBinder]:
+        """Example: `for<'a>` of `for<'a> fn(&'a T)`."""
+        return first(self, "ForBinder")
+
+    @property
+    def ty(self) -> Optional[Type]:
+        """Example: `fn(&'a T)` of `for<'a> fn(&'a T)`."""
+        return first(self, "Type")
 
 
 class ImplTraitType(Type):
     """`impl T + U`."""
 
     KIND = "IMPL_TRAIT_TYPE"
-    impl_token: Optional[Element] = token("IMPL_KW", "Example: `impl` of `impl T + U`.")
-    type_bound_list: Optional[TypeBoundList] = first("TypeBoundList", "Example: `T + U` of `impl T + U`.")
+
+    @property
+    def impl_token(self) -> Optional[Element]:
+        """Example: `impl` of `impl T + U`."""
+        return token(self, "IMPL_KW")
+
+    @property
+    def type_bound_list(self) -> Optional[TypeBoundList]:
+        """Example: `T + U` of `impl T + U`."""
+        return first(self, "TypeBoundList")
 
 
 class InferType(Type):
     """The type that is left out: `_`."""
 
     KIND = "INFER_TYPE"
-    underscore_token: Optional[Element] = token("UNDERSCORE", "Example: `_` of `_`.")
+
+    @property
+    def underscore_token(self) -> Optional[Element]:
+        """Example: `_` of `_`."""
+        return token(self, "UNDERSCORE")
 
 
 class MacroType(Type):
     """A macro call as a type."""
 
     KIND = "MACRO_TYPE"
-    macro_call: Optional[MacroCall] = first("MacroCall", "Example: `m!(a)` of `m!(a)`.")
+
+    @property
+    def macro_call(self) -> Optional[MacroCall]:
+        """Example: `m!(a)` of `m!(a)`."""
+        return first(self, "MacroCall")
 
 
 class NeverType(Type):
     """The type without values: `!`."""
 
     KIND = "NEVER_TYPE"
-    excl_token: Optional[Element] = token("BANG", "Example: `!` of `!`.")
+
+    @property
+    def excl_token(self) -> Optional[Element]:
+        """Example: `!` of `!`."""
+        return token(self, "BANG")
 
 
 class ParenType(Type):
     """A type in parentheses: `(T)`."""
 
     KIND = "PAREN_TYPE"
-    l_paren_token: Optional[Element] = token("L_PAREN", "Example: `(` of `(T)`.")
-    r_paren_token: Optional[Element] = token("R_PAREN", "Example: `)` of `(T)`.")
-    ty: Optional[Type] = first("Type", "Example: `T` of `(T)`.")
+
+    @property
+    def l_paren_token(self) -> Optional[Element]:
+        """Example: `(` of `(T)`."""
+        return token(self, "L_PAREN")
+
+    @property
+    def r_paren_token(self) -> Optional[Element]:
+        """Example: `)` of `(T)`."""
+        return token(self, "R_PAREN")
+
+    @property
+    def ty(self) -> Optional[Type]:
+        """Example: `T` of `(T)`."""
+        return first(self, "Type")
 
 
 class PathType(Type):
     """A path as a type: `a::T<U>`."""
 
     KIND = "PATH_TYPE"
-    path: Optional[Path] = first("Path", "Example: `a::T` of `a::T`.")
+
+    @property
+    def path(self) -> Optional[Path]:
+        """Example: `a::T` of `a::T`."""
+        return first(self, "Path")
 
 
 class PtrType(Type):
     """A raw pointer type: `*const T`, `*mut T`."""
 
     KIND = "PTR_TYPE"
-    const_token: Optional[Element] = token("CONST_KW", "Example: `const` of `*const T`.")
-    mut_token: Optional[Element] = token("MUT_KW", "Example: `mut` of `*mut T`.")
-    star_token: Optional[Element] = token("STAR", "Example: `*` of `*const T`.")
-    ty: Optional[Type] = first("Type", "Example: `T` of `*const T`.")
+
+    @property
+    def const_token(self) -> Optional[Element]:
+        """Example: `const` of `*const T`."""
+        return token(self, "CONST_KW")
+
+    @property
+    def mut_token(self) -> Optional[Element]:
+        """Example: `mut` of `*mut T`."""
+        return token(self, "MUT_KW")
+
+    @property
+    def star_token(self) -> Optional[Element]:
+        """Example: `*` of `*const T`."""
+        return token(self, "STAR")
+
+    @property
+    def ty(self) -> Optional[Type]:
+        """Example: `T` of `*const T`."""
+        return first(self, "Type")
 
 
 class RefType(Type):
     """A reference type: `&'a T`, `&mut T`."""
 
     KIND = "REF_TYPE"
-    amp_token: Optional[Element] = token("AMP", "Example: `&` of `&'a mut T`.")
-    lifetime: Optional[Lifetime] = first("Lifetime", "Example: `'a` of `&'a mut T`.")
-    mut_token: Optional[Element] = token("MUT_KW", "Example: `mut` of `&'a mut T`.")
-    ty: Optional[Type] = first("Type", "Example: `T` of `&'a mut T`.")
+
+    @property
+    def amp_token(self) -> Optional[Element]:
+        """Example: `&` of `&'a mut T`."""
+        return token(self, "AMP")
+
+    @property
+    def lifetime(self) -> Optional[Lifetime]:
+        """Example: `'a` of `&'a mut T`."""
+        return first(self, "Lifetime")
+
+    @property
+    def mut_token(self) -> Optional[Element]:
+        """Example: `mut` of `&'a mut T`."""
+        return token(self, "MUT_KW")
+
+    @property
+    def ty(self) -> Optional[Type]:
+        """Example: `T` of `&'a mut T`."""
+        return first(self, "Type")
 
 
 class RetType(View):
     """The type that is returned: `-> T`."""
 
     KIND = "RET_TYPE"
-    thin_arrow_token: Optional[Element] = token("THIN_ARROW", "Example: `->` of `-> T`.")
-    ty: Optional[Type] = first("Type", "Example: `T` of `-> T`.")
+
+    @property
+    def thin_arrow_token(self) -> Optional[Element]:
+        """Example: `->` of `-> T`."""
+        return token(self, "THIN_ARROW")
+
+    @property
+    def ty(self) -> Optional[Type]:
+        """Example: `T` of `-> T`."""
+        return first(self, "Type")
 
 
 class SliceType(Type):
     """A slice type: `[T]`."""
 
     KIND = "SLICE_TYPE"
-    l_brack_token: Optional[Element] = token("L_BRACK", "Example: `[` of `[T]`.")
-    r_brack_token: Optional[Element] = token("R_BRACK", "Example: `]` of `[T]`.")
-    ty: Optional[Type] = first("Type", "Example: `T` of `[T]`.")
+
+    @property
+    def l_brack_token(self) -> Optional[Element]:
+        """Example: `[` of `[T]`."""
+        return token(self, "L_BRACK")
+
+    @property
+    def r_brack_token(self) -> Optional[Element]:
+        """Example: `]` of `[T]`."""
+        return token(self, "R_BRACK")
+
+    @property
+    def ty(self) -> Optional[Type]:
+        """Example: `T` of `[T]`."""
+        return first(self, "Type")
 
 
 class TupleType(Type):
     """A tuple type: `(T, U)`, `()`."""
 
     KIND = "TUPLE_TYPE"
-    fields: List[Type] = every("Type", "Example: `T` and `U` of `(T, U)`.")
-    l_paren_token: Optional[Element] = token("L_PAREN", "Example: `(` of `(T, U)`.")
-    r_paren_token: Optional[Element] = token("R_PAREN", "Example: `)` of `(T, U)`.")
+
+    @property
+    def fields(self) -> List[Type]:
+        """Example: `T` and `U` of `(T, U)`."""
+        return every(self, "Type")
+
+    @property
+    def l_paren_token(self) -> Optional[Element]:
+        """Example: `(` of `(T, U)`."""
+        return token(self, "L_PAREN")
+
+    @property
+    def r_paren_token(self) -> Optional[Element]:
+        """Example: `)` of `(T, U)`."""
+        return token(self, "R_PAREN")
