@@ -1,5 +1,5 @@
 -- A text that begins with the first byte of no word is none of the words.
-use Rattle.std.proofs.Common.{◌≡◌, ℕ, Bool, true, false, ◌==◌, ◌&&◌, if◌then◌else◌, Option, Some, None, List, [], ◌∷◌, ◌++◌, ap, sym, ◌∙◌, refl, eqb-true}
+use Rattle.std.proofs.Common.{◌≡◌, ℕ, Bool, true, false, ◌==◌, ◌&&◌, if◌then◌else◌, not, Option, Some, None, List, [], ◌∷◌, ◌++◌, ap, sym, ◌∙◌, refl, eqb-true, eq-eqb}
 use Rattle.std.specs.Prelude.{unwrap_or, slice_get}
 use Rattle.std.specs.Str.{bytes_eq}
 use Rattle.std.proofs.lemmas.Bool.{false≢true}
@@ -74,6 +74,74 @@ none_of_all (group ∷ groups) words text x first h other k =
     none_of_all groups (words ++ group.1) text x first begins.1 other.1
     (none_of_two text words group.1 k (not_among group.0 x text group.1 first other.0 begins.0))
 
+-- ---- a text that begins with the first byte of one group is found in no other
+
+-- the words of the group of a byte
+abbrev group_of : ℕ → Groups → Words
+group_of b [] = []
+group_of b (group ∷ groups) = if b == group.0 then group.1 else group_of b groups
+
+abbrev has_none : ℕ → Groups → Bool
+has_none b [] = true
+has_none b (group ∷ groups) = not (b == group.0) && has_none b groups
+
+-- at most one group is that of the byte
+abbrev pub has_one : ℕ → Groups → Bool
+has_one b [] = true
+has_one b (group ∷ groups) = if b == group.0 then has_none b groups else has_one b groups
+
+differ : (b y : ℕ) → (b == y) ≡ false → b ≡ y → ⊥
+differ b y h same = false≢true (sym h ∙ eq-eqb b y same)
+
+not_true : (a : Bool) → not a ≡ true → a ≡ false
+not_true true h = absurd (false≢true h)
+not_true false h = refl
+
+of_none : (b : ℕ) (groups : Groups) → has_none b groups ≡ true → OfNone b groups
+of_none b [] h = tt
+of_none b (group ∷ groups) h =
+    let k = both (not (b == group.0)) (has_none b groups) h in
+    (differ b group.0 (not_true (b == group.0) k.0), of_none b groups k.1)
+
+abbrev is_there : Option SyntaxKind → Bool
+is_there None = false
+is_there (Some _) = true
+
+behind : (t : Bool) (k : SyntaxKind) (o p q : Option SyntaxKind) → (if t then Some k else o) ≡ None → (o ≡ None → p ≡ q) → (if t then Some k else p) ≡ q
+behind true k o p q h next = absurd (false≢true (sym (ap is_there h)))
+behind false k o p q h next = next h
+
+back_of_two : (text : List ℕ) (front back : Words) → find front text ≡ None → find (front ++ back) text ≡ find back text
+back_of_two text [] back h = refl
+back_of_two text (word ∷ front) back h =
+    behind (bytes_eq text word.0) word.1 (find front text) (find (front ++ back) text) (find back text) h (λ rest. back_of_two text front back rest)
+
+front_of_two : (text : List ℕ) (front back : Words) → find back text ≡ None → find (front ++ back) text ≡ find front text
+front_of_two text [] back h = h
+front_of_two text (word ∷ front) back h =
+    ap (λ (o : Option SyntaxKind). if bytes_eq text word.0 then Some word.1 else o) (front_of_two text front back h)
+
+without_rest : (groups : Groups) (words : Words) (text : List ℕ) (x : ℕ) → slice_get text 0 ≡ Some x → all_begin groups ≡ true → OfNone x groups → find (flat words groups) text ≡ find words text
+without_rest [] words text x first h other = refl
+without_rest (group ∷ groups) words text x first h other =
+    let begins = both (begin group.0 group.1) (all_begin groups) h in
+    without_rest groups (words ++ group.1) text x first begins.1 other.1
+    ∙ front_of_two text words group.1 (not_among group.0 x text group.1 first other.0 begins.0)
+
+either : (t : Bool) (a b : Words) (text : List ℕ) (o : Option SyntaxKind) → (t ≡ true → o ≡ find a text) → (t ≡ false → o ≡ find b text) → o ≡ find (if t then a else b) text
+either true a b text o in_first in_second = in_first refl
+either false a b text o in_first in_second = in_second refl
+
+in_one : (groups : Groups) (words : Words) (text : List ℕ) (x : ℕ) → slice_get text 0 ≡ Some x → all_begin groups ≡ true → has_one x groups ≡ true → find words text ≡ None → find (flat words groups) text ≡ find (group_of x groups) text
+in_one [] words text x first h one k = k
+in_one (group ∷ groups) words text x first h one k =
+    let begins = both (begin group.0 group.1) (all_begin groups) h in
+    let left = λ (t : Bool). if t then has_none x groups else has_one x groups in
+    either (x == group.0) group.1 (group_of x groups) text (find (flat (words ++ group.1) groups) text)
+    (λ same. without_rest groups (words ++ group.1) text x first begins.1 (of_none x groups (sym (ap left same) ∙ one)) ∙ back_of_two text words group.1 k)
+    (λ other. in_one groups (words ++ group.1) text x first begins.1 (sym (ap left other) ∙ one)
+    (none_of_two text words group.1 k (not_among group.0 x text group.1 first (differ x group.0 other) begins.0)))
+
 -- ---- keywords
 
 abbrev pub keyword_groups : Edition → Groups
@@ -91,6 +159,9 @@ keywords_begin Edition2024 = refl
 pub no_keyword : (e : Edition) (text : List ℕ) (x : ℕ) → slice_get text 0 ≡ Some x → OfNone x (keyword_groups e) → None ≡ keyword_of e text
 no_keyword e text x first other = sym (none_of_all (keyword_groups e) [] text x first (keywords_begin e) other refl)
 
+pub keyword_at : (e : Edition) (text : List ℕ) (x b : ℕ) → slice_get text 0 ≡ Some x → x ≡ b → has_one b (keyword_groups e) ≡ true → find (group_of b (keyword_groups e)) text ≡ keyword_of e text
+keyword_at e text x b first same one = sym (in_one (keyword_groups e) [] text b (first ∙ ap Some same) (keywords_begin e) one refl)
+
 -- ---- words that are keywords in some places
 
 abbrev pub name_groups : Groups
@@ -100,3 +171,6 @@ name_groups =
 
 pub no_name : (text : List ℕ) (x : ℕ) → slice_get text 0 ≡ Some x → OfNone x name_groups → None ≡ contextual_kind_of text
 no_name text x first other = sym (none_of_all name_groups [] text x first refl other refl)
+
+pub name_at : (text : List ℕ) (x b : ℕ) → slice_get text 0 ≡ Some x → x ≡ b → has_one b name_groups ≡ true → find (group_of b name_groups) text ≡ contextual_kind_of text
+name_at text x b first same one = sym (in_one name_groups [] text b (first ∙ ap Some same) refl one refl)
