@@ -456,6 +456,7 @@ impl<'a> Layout<'a> {
     }
 }
 
+#[inline(never)]
 #[tactic(auto, using(crate::proofs::Moves::moves_none, crate::proofs::Moves::moves_more))]
 fn walked<'a>(
     alloc: Global,

@@ -83,6 +83,7 @@ impl Starts {
 }
 
 /// The starts of all nodes except that of the event `root`.
+#[inline(never)]
 #[tactic(auto, unfolding(crate::specs::Starts::starts_of))]
 pub fn find_starts(alloc: Global, root: usize, events: &[Event]) -> Result<Starts, AllocError>
     ensures { IfOk result (λ s. links_of s ≡ starts_of root events.now) }
