@@ -344,7 +344,7 @@ fn rewrite<W: Write>(
 }
 
 // The named rules of a set. Of several with one name the first is described.
-fn described(alloc: Global, set: &RuleSet) -> Result<Vec<Described<'_>>, AllocError> {
+fn named_rules(alloc: Global, set: &RuleSet) -> Result<Vec<Described<'_>>, AllocError> {
     let mut seen: BTreeSet<&str> = BTreeSet::new(alloc);
     for rule in [Rule::Syntax, Rule::Parentheses, Rule::Match] {
         seen.insert(rule.id())?;
@@ -556,7 +556,7 @@ impl Job {
     fn start_sarif<W: Write>(&self, alloc: Global, out: &mut W) -> io::Result<()> {
         match &self.task {
             Task::Search { set, .. } | Task::Rewrite { set, .. } => {
-                write_start(alloc, out, &described(alloc, set)?)
+                write_start(alloc, out, &named_rules(alloc, set)?)
             }
             _ => write_start(alloc, out, &[]),
         }
