@@ -188,7 +188,7 @@ fn write_sarif<W: Write>(
     at: Region,
     is_first: bool,
 ) -> io::Result<()> {
-    let said = format!(in alloc; "{}", Said { place })?;
+    let said = format!(in alloc; "{}", Said { place: &*place })?;
     let id = if place.name.is_empty() {
         Rule::Match.id()
     } else {
