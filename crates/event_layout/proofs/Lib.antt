@@ -26,4 +26,5 @@ pub mod Retold
 pub mod Begun
 pub mod Noting
 pub mod Idle
+mod Handed
 pub mod Blanks

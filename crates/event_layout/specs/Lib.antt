@@ -1,6 +1,7 @@
 pub mod Starts
 pub mod Trivia
 pub mod Layout
+pub mod Handed
 pub mod Made
 pub mod Orders
 pub mod Amid

@@ -2,7 +2,7 @@
 ghost use Rattle.std.specs.Prelude.{false, position, nat_eq, ◌≡◌, ◌-◌, ◌≤◌, ◌<◌, ◌^◌, [], OnOk, IfOk, All, length, slice_get};
 ghost use Rattle.ras_front_end.specs.Reading.{front_step, front_steps};
 ghost use Rattle.token_layout.specs.Laid.{IsCut, Laid};
-ghost use Rattle.event_layout.specs.Layout.{laying_of, given_of, kind_of_part, len_of_part, dot_of, cut_at, is_node_of, is_node_at, added, leaf_of, pass_of, pass_all_of, pass_trivia_of, join_of, joined_len, piece_of, enter_of, exit_of, exit_all_of, begin_with, begin_of, begin_at_of, fault_of, obey_of, advance_of, IsOver, anywhere, finish_of, root_of, outermost_of, moves, moves_of, start_of, laid_with, laid_of};
+ghost use Rattle.event_layout.specs.Layout.{laying_of, given_of, given, kind_of_part, len_of_part, dot_of, cut_at, is_node_of, is_node_at, added, leaf_of, pass_of, pass_all_of, pass_trivia_of, join_of, joined_len, piece_of, enter_of, exit_of, exit_all_of, begin_with, begin_of, begin_at_of, fault_of, obey_of, advance_of, IsOver, anywhere, finish_of, root_of, outermost_of, moves, moves_of, start_of, laid_with, laid_of};
 ghost use Rattle.event_layout.specs.Trivia.{outside_of};
 ghost use Rattle.event_layout.specs.Made.{without_trivia, only_tokens, made_of};
 
@@ -37,9 +37,9 @@ pub struct LaidOut {
 
 // What stays the same.
 #[derive(Drop)]
-struct Plan<'a> {
+pub(crate) struct Plan<'a> {
     bytes: &'a [u8],
-    events: &'a [Event],
+    pub(crate) events: &'a [Event],
     attaching: &'a [SyntaxKind],
     // the event of the root's node
     root: usize,
@@ -47,7 +47,7 @@ struct Plan<'a> {
 }
 
 #[derive(Drop)]
-struct Layout<'a> {
+pub(crate) struct Layout<'a> {
     // the number of the next event
     next: usize,
     // the node that is entered before it, as in `Starts`
@@ -60,7 +60,7 @@ struct Layout<'a> {
     // how many nodes are open in the root
     depth: usize,
     steps: Vec<Step>,
-    faults: Vec<ParserError>,
+    pub(crate) faults: Vec<ParserError>,
 }
 
 fn event_at(events: &[Event], i: usize) -> Option<Event>
@@ -153,16 +153,42 @@ fn capacity_for(tokens: &[Token], nodes: usize) -> usize {
     steps.saturating_add(steps / 10 * 3)
 }
 
+impl<'a> Plan<'a> {
+    pub(crate) fn new(
+        alloc: Global,
+        attaching: &'a [SyntaxKind],
+        bytes: &'a [u8],
+        events: &'a [Event],
+    ) -> Result<Plan<'a>, AllocError>
+        ensures { IfOk result (λ p. given_of p ≡ given attaching.now bytes.now events.now) }
+    {
+        let root = root_of(events);
+        let starts = find_starts(alloc, root, events)?;
+        Ok(Plan {
+            bytes,
+            events,
+            attaching,
+            root,
+            starts,
+        })
+    }
+
+    // How many nodes the events make, the root aside.
+    pub(crate) fn nodes(&self) -> usize {
+        self.starts.nodes
+    }
+}
+
 impl<'a> Layout<'a> {
-    fn new(
+    pub(crate) fn new(
         alloc: Global,
         root: SyntaxKind,
         plan: &Plan,
         tokens: &'a [Token],
+        capacity: usize,
     ) -> Result<Layout<'a>, AllocError>
         ensures { IfOk result (λ l. laying_of l ≡ start_of root (given_of plan.now) tokens.now) }
     {
-        let capacity = capacity_for(tokens, plan.starts.nodes);
         let mut steps = Vec::with_capacity(alloc, capacity)?;
         steps.push(Step::Enter(root))?;
         Ok(Layout {
@@ -416,7 +442,7 @@ impl<'a> Layout<'a> {
 
     // One move. Returns whether there is more to do.
     #[tactic(auto, unfolding(crate::specs::Layout::advance_of), using(crate::proofs::Idle::none_left))]
-    fn advance(&mut self, plan: &Plan) -> Result<bool, AllocError>
+    pub(crate) fn advance(&mut self, plan: &Plan) -> Result<bool, AllocError>
         ensures moved { OnOk result
             (laying_of self.new ≡ advance_of (given_of plan.now) (laying_of self.old)) }
         ensures over { IfOk result
@@ -444,8 +470,22 @@ impl<'a> Layout<'a> {
         }
     }
 
+    // The steps that are not handed on.
+    pub(crate) fn steps(&self) -> &[Step]
+        ensures { front_steps result.now ≡ (laying_of self.now).steps }
+    {
+        &self.steps
+    }
+
+    // The steps were handed on.
+    pub(crate) fn forget_steps(&mut self)
+        ensures { laying_of self.new ≡ record (laying_of self.old) { steps = [] } }
+    {
+        self.steps.clear();
+    }
+
     // What is left after the last event.
-    fn finish(&mut self) -> Result<(), AllocError>
+    pub(crate) fn finish(&mut self) -> Result<(), AllocError>
         ensures { OnOk result (laying_of self.new ≡ finish_of (laying_of self.old)) }
     {
         let count = self.rest.len();
@@ -468,7 +508,8 @@ fn walked<'a>(
         ≡ anywhere (moves (moves_of (length plan.now.events.now)) (given_of plan.now)
         (start_of root (given_of plan.now) tokens.now))) }
 {
-    let mut layout = Layout::new(alloc, root, plan, tokens)?;
+    let capacity = capacity_for(tokens, plan.starts.nodes);
+    let mut layout = Layout::new(alloc, root, plan, tokens, capacity)?;
     let moves = plan.events.len().saturating_mul(2);
     for _i in 0..moves {
         if !layout.advance(plan)? {
@@ -530,14 +571,7 @@ fn lay(
     ensures faults { IfOk result (λ l. l.faults.items
         ≡ (laid_of root attaching.now bytes.now tokens.now events.now).faults) }
 {
-    let last = root_of(events);
-    let plan = Plan {
-        bytes,
-        events,
-        attaching,
-        root: last,
-        starts: find_starts(alloc, last, events)?,
-    };
+    let plan = Plan::new(alloc, attaching, bytes, events)?;
     let layout = walk(alloc, root, &plan, tokens)?;
     Ok(LaidOut {
         steps: layout.steps,

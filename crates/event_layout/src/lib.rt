@@ -6,10 +6,12 @@
 #![tactic(auto)]
 
 mod ending;
+mod handing;
 pub mod laws;
 mod layout;
 mod starts;
 mod trivia;
 
 pub use ending::ends_in_token;
+pub use handing::{HandedOut, lay_out_into};
 pub use layout::{LaidOut, ParserError, lay_out, outermost};

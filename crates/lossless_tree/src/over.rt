@@ -1,12 +1,14 @@
 //! Builds a tree over a complete text.
-ghost use Rattle.std.specs.Prelude.{◌<◌, ◌^◌, length, filter_map, IfOk};
+ghost use Rattle.std.specs.Prelude.{◌≡◌, ◌<◌, ◌^◌, List, length, filter_map, IfOk};
 ghost use Rattle.tree_model.specs.Events.{BuildsNode};
 ghost use Rattle.tree_model.specs.Cursor.{IsRoot};
+ghost use Rattle.tree_rows.specs.declared.builder_event.BuilderEvent.{BuilderEvent};
 ghost use Rattle.tree_rows.specs.Builder.{events_from, IsOneTree};
+ghost use Rattle.tree_rows.specs.Making.{run, nothing_made, MadeOf};
 
 use crate::cursor::node::SyntaxNode;
 use std::alloc::{AllocError, Global};
-use tree_rows::{Table, TreeStep};
+use tree_rows::{RowBuilder, Table, TreeStep};
 
 /// Builds a tree from steps over a text: each token takes the bytes that follow those of the tokens
 /// before it.
@@ -28,4 +30,19 @@ pub fn tree_over<S: TreeStep>(
 {
     let table = Table::over(alloc, text, steps)?;
     SyntaxNode::root(alloc, table)
+}
+
+/// Builds a tree over a text by the rows that were made of its steps as they came.
+///
+/// It is the tree that [`tree_over`] builds of the same steps. Takes time linear in the text.
+pub fn tree_of_rows(alloc: Global, text: &str, rows: RowBuilder) -> Result<SyntaxNode, AllocError>
+    requires short { length text.now < 2 ^ 32 }
+    requires made { MadeOf text.now rows }
+    ensures { IfOk result (λ root. (steps : List BuilderEvent)
+        → run steps nothing_made ≡ rows → IsOneTree steps text.now
+        → BuildsNode (events_from steps text.now) root.tree × IsRoot root) }
+{
+    let table = rows.table(alloc, text)?;
+    let root = SyntaxNode::root(alloc, table)?;
+    Ok(root)
 }

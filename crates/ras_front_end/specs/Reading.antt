@@ -1,9 +1,11 @@
 -- The results of a front end, without the memory that they take: steps, whose tokens have lengths,
 -- and the lexer's errors.
-use Rattle.std.specs.Prelude.{◌≡◌, ℕ, ◌≤◌, List, [], ◌∷◌, ◌++◌, length, take, drop, option_map, IsUtf8, String, string_bytes, Option}
+use Rattle.std.specs.Prelude.{◌≡◌, ℕ, ◌≤◌, List, [], ◌∷◌, ◌++◌, length, take, drop, option_map, IsUtf8, String, string_bytes, Option, Some, None}
 use Rattle.std.specs.Box.{box_value}
 use Rattle.syntax_kind.specs.declared.syntax_kind.SyntaxKind.{SyntaxKind}
 use Rattle.tree_model.specs.Events.{Event, enter, leaf, exit}
+use Rattle.tree_rows.specs.declared.builder_event.BuilderEvent.{BuilderEvent}
+use Rattle.tree_rows.specs.declared.builder_event.BuilderEvent.TheVariants as event
 use Rattle.ras_front_end.specs.declared.output.Step.{Step}
 use Rattle.ras_front_end.specs.declared.output.Step.TheVariants.{Enter, Token, Exit, Error}
 use Rattle.ras_front_end.specs.declared.output.Output.{Output}
@@ -28,6 +30,13 @@ front_step (Error p m) = reports (string_bytes (box_value m)) p
 abbrev pub front_steps : List Step → List FrontStep
 front_steps [] = []
 front_steps (s ∷ ss) = front_step s ∷ front_steps ss
+
+-- the event of a step, if it has one
+abbrev pub front_event : FrontStep → Option BuilderEvent
+front_event (begins k) = Some (event.Enter k)
+front_event (takes k n) = Some (event.Token k n)
+front_event ends = Some event.Exit
+front_event (reports m p) = None
 
 -- the reading of an output
 abbrev pub reading_of : Output → Reading
@@ -64,3 +73,8 @@ stored_faults r = step_faults r.steps ++ r.errors
 -- a single token's kind, and the bytes of its error
 abbrev pub single_of : {Z : Type 0} → SyntaxKind × Option (String Z) → SyntaxKind × Option (List ℕ)
 single_of t = (t.0, option_map string_bytes t.1)
+
+-- what took the steps has all of a reading, and beside it are the lexer's errors
+pub record IsGiven {S : Type 0} (took : S → List FrontStep → Type 0) (sink : S) (errors : List ErrorModel) (r : Reading) : Type 0 where
+  pub steps : took sink r.steps
+  pub errors_are : errors ≡ r.errors

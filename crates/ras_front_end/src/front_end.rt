@@ -1,10 +1,12 @@
 //! The lexer and parser that the caller brings.
 ghost use Rattle.std.specs.Prelude.{◌≡◌, IfOk, option_map};
-ghost use Rattle.ras_front_end.specs.Reading.{reading_of, single_of};
+ghost use Rattle.ras_front_end.specs.Reading.{IsGiven, reading_of, single_of};
 ghost use Rattle.ras_front_end.specs.Front.{Front, FrontEndKeeps};
 
 use crate::edition::{Edition, Entry, Reparser};
 use crate::output::Output;
+use crate::step_sink::StepSink;
+use crate::syntax_error::SyntaxError;
 use std::alloc::{AllocError, Global};
 use syntax_kind::SyntaxKind;
 
@@ -36,6 +38,27 @@ pub trait FrontEnd {
     ) -> Result<Output, AllocError>
         ensures { IfOk result
             (λ output. reading_of output ≡ (answers self.now).parsed entry edition text.now) };
+
+    /// Parses a text, as [`parse`](FrontEnd::parse) does, and gives the steps to a sink, which it
+    /// makes. Returns the sink and the lexer's errors.
+    ///
+    /// This one gives the steps that `parse` returns. A front end that gives them as it makes them
+    /// needs no memory for a list of all steps.
+    fn parse_into<S: StepSink + Drop>(
+        &self,
+        alloc: Global,
+        entry: Entry,
+        text: &str,
+        edition: Edition,
+    ) -> Result<(S, Vec<SyntaxError>), AllocError>
+        ensures { IfOk result (λ given. IsGiven S.took given.0 given.1.items
+            ((answers self.now).parsed entry edition text.now)) }
+    {
+        let Output { steps, errors } = self.parse(alloc, entry, text, edition)?;
+        let mut sink = S::with_room(alloc, steps.len())?;
+        sink.take(&steps)?;
+        Ok((sink, errors))
+    }
 
     /// The kind of a text that is exactly one token, with the lexer's error if there is one; `None`
     /// if it is not one token.

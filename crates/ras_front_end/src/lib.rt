@@ -6,6 +6,7 @@ mod edition;
 mod front_end;
 mod output;
 mod parse_error;
+mod step_sink;
 mod syntax_error;
 mod tree_step;
 
@@ -13,4 +14,5 @@ pub use edition::{Edition, Entry, Reparser};
 pub use front_end::FrontEnd;
 pub use output::{Output, Step};
 pub use parse_error::ParseError;
+pub use step_sink::StepSink;
 pub use syntax_error::SyntaxError;

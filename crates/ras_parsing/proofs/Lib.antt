@@ -14,3 +14,4 @@ pub mod ExactPaths
 pub mod OrderedInText
 pub mod Windows
 pub mod Steps
+pub mod Sinks

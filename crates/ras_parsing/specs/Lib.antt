@@ -9,3 +9,4 @@ pub mod Names
 pub mod Document
 pub mod ExactSteps
 pub mod InSteps
+pub mod Sinks

@@ -18,7 +18,8 @@ pub(crate) struct Built {
     pub errors: Vec<SyntaxError>,
 }
 
-fn store(errors: &mut Vec<SyntaxError>, error: SyntaxError) -> Result<(), AllocError>
+/// Appends an error.
+pub(crate) fn store(errors: &mut Vec<SyntaxError>, error: SyntaxError) -> Result<(), AllocError>
     ensures { OnOk result (errors.new.items ≡ errors.old.items ++ error ∷ []) }
 {
     errors.push(error)?;

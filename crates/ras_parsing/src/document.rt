@@ -8,12 +8,12 @@ ghost use Rattle.ras_parsing.specs.InSteps.{InPlace, NotInPlace};
 
 mod edits;
 
-use crate::build::build_output;
-use crate::exact::{Counted, exact_path, parser_errors, with_exact};
+use crate::exact::{Counted, exact_path, with_exact};
 use crate::file::FileView;
 use crate::parse::Parse;
 use crate::reparse::{edited_text, is_too_long};
 use crate::retold::{token_path, with_retold};
+use crate::sink::read_tree;
 use exact_front::ExactFront;
 use lossless_tree::laws::node_is_placed;
 use lossless_tree::{TextRange, TextSize};
@@ -60,13 +60,11 @@ fn read_counted<T, F: FrontEnd>(
     ensures range { IfOk result (λ n. n.range ≡ record { start = 0; end = length text.now }) }
     ensures refused { IfErr result (λ e. (e ≡ TooLong) ↔ (2 ^ 32 ≤ length text.now)) }
 {
-    let output = front.parse(alloc, Entry::SourceFile, text, edition)?;
-    let parser_errors = parser_errors(&output.steps);
-    let built = build_output(alloc, text, output)?;
-    let parse = Parse::from_parts(alloc, built.root, built.errors)?;
+    let read = read_tree(alloc, front, Entry::SourceFile, text, edition)?;
+    let parse = Parse::from_parts(alloc, read.root, read.errors)?;
     Ok(Counted {
         parse,
-        parser_errors,
+        parser_errors: read.parser_errors,
         range: TextRange::up_to(TextSize::new(text.len() as u32)),
     })
 }

@@ -17,6 +17,7 @@ mod ordered;
 mod parse;
 mod reparse;
 mod retold;
+mod sink;
 pub mod utils;
 
 pub use builder::SyntaxTreeBuilder;

@@ -13,6 +13,7 @@ ghost use Rattle.ras_parsing.specs.OkCases.{IsOkRefusal};
 use crate::build::build_output;
 use crate::error_list::{copies, push_violations};
 use crate::ok_error::OkError;
+use crate::sink::read_tree;
 use lossless_tree::SyntaxNode;
 use ras_front_end::{Edition, Entry, FrontEnd, Output, ParseError, SyntaxError};
 use ras_node::AstNode;
@@ -247,7 +248,6 @@ pub fn read<T, F: FrontEnd>(
     if text.len() > u32::MAX as usize {
         return Err(ParseError::TooLong);
     }
-    let output = front.parse(alloc, entry, text, edition)?;
-    let built = build_output(alloc, text, output)?;
-    Ok(Parse::from_parts(alloc, built.root, built.errors)?)
+    let read = read_tree(alloc, front, entry, text, edition)?;
+    Ok(Parse::from_parts(alloc, read.root, read.errors)?)
 }

@@ -1,6 +1,6 @@
 //! The front end.
 ghost use Rattle.std.specs.Prelude.{◌≡◌, ◌<◌, ◌^◌, nat_lt, IfOk, option_map, length};
-ghost use Rattle.ras_front_end.specs.Reading.{reading_of, single_of};
+ghost use Rattle.ras_front_end.specs.Reading.{IsGiven, reading_of, single_of};
 ghost use Rattle.token_layout.specs.Laid.{IsCut};
 ghost use Rattle.rust_lexer.specs.Lexing.{tokens_of, errors_of};
 ghost use Rattle.rust_grammar.specs.Seeing.{sights_of};
@@ -10,14 +10,14 @@ ghost use Rattle.rust_front.specs.Tops.{read_at, whole_at};
 use crate::exact::{LONGEST_EXACT, exact_piece, has_head, is_exact_piece};
 use crate::message::{lexer_errors, lexer_message};
 use crate::piece::{exact_reparser_of, reparser_of, rule_by};
-use crate::report::reported;
+use crate::report::{report_into, reported};
 use crate::retold::is_retold;
 use crate::root::attaching;
 use crate::top::TopEntryPoint;
-use event_layout::{lay_out, outermost};
+use event_layout::{HandedOut, lay_out, lay_out_into, outermost};
 use exact_front::ExactFront;
 use grammar_machine::{Event, run};
-use ras_front_end::{Edition, Entry, FrontEnd, Output, Reparser};
+use ras_front_end::{Edition, Entry, FrontEnd, Output, Reparser, StepSink, SyntaxError};
 use rust_grammar::{Rule, grammar, rule_of, sights};
 use rust_lexer::{Lexed, is_strict_keyword, keyword, lex, single_token};
 use std::alloc::{AllocError, Global};
@@ -75,6 +75,25 @@ pub(crate) fn assemble(
     Ok(Output { steps, errors })
 }
 
+// The same, with the steps given to a sink.
+#[tactic(auto, unfolding(crate::specs::Front::reading_with))]
+fn assemble_into<S: StepSink + Drop>(
+    alloc: Global,
+    root: SyntaxKind,
+    text: &str,
+    lexed: &Lexed,
+    events: &[Event],
+) -> Result<(S, Vec<SyntaxError>), AllocError>
+    ensures { IfOk result (λ given. IsGiven S.took given.0 given.1.items
+        (reading_with root text.now lexed.now.tokens.items lexed.now.errors.items events.now)) }
+{
+    let handed = lay_out_into(alloc, root, attaching(), text, &lexed.tokens, events)?;
+    let HandedOut { mut sink, faults } = handed;
+    report_into(alloc, &lexed.tokens, &faults, &mut sink)?;
+    let errors = lexer_errors(alloc, text, &lexed.errors)?;
+    Ok((sink, errors))
+}
+
 pub(crate) fn is_short(text: &str) -> bool
     ensures { result ≡ nat_lt (length text.now) (2 ^ 32) }
 {
@@ -121,6 +140,52 @@ pub(crate) fn read_at(
     } else {
         Ok(nothing(alloc))
     }
+}
+
+fn whole_into<S: StepSink + Drop>(
+    alloc: Global,
+    point: TopEntryPoint,
+    text: &str,
+    edition: Edition,
+) -> Result<(S, Vec<SyntaxError>), AllocError>
+    ensures { length text.now < 2 ^ 32 → IfOk result (λ given.
+        IsGiven S.took given.0 given.1.items (whole_at point edition text.now)) }
+{
+    let lexed = lex(alloc, text, edition)?;
+    let events = events(alloc, point.rule(), text, &lexed.tokens, edition)?;
+    let root = point.root(outermost(&events));
+    let given = assemble_into(alloc, root, text, &lexed, &events)?;
+    Ok(given)
+}
+
+#[tactic(auto, unfolding(crate::specs::Tops::read_at))]
+fn read_into<S: StepSink + Drop>(
+    alloc: Global,
+    point: TopEntryPoint,
+    text: &str,
+    edition: Edition,
+) -> Result<(S, Vec<SyntaxError>), AllocError>
+    ensures { IfOk result (λ given.
+        IsGiven S.took given.0 given.1.items (read_at point edition text.now)) }
+{
+    if is_short(text) {
+        whole_into(alloc, point, text, edition)
+    } else {
+        Ok((S::with_room(alloc, 0)?, Vec::new(alloc)))
+    }
+}
+
+fn parse_into<S: StepSink + Drop>(
+    alloc: Global,
+    entry: Entry,
+    text: &str,
+    edition: Edition,
+) -> Result<(S, Vec<SyntaxError>), AllocError>
+    ensures { IfOk result (λ given.
+        IsGiven S.took given.0 given.1.items (parsed_of entry edition text.now)) }
+{
+    let given = read_into(alloc, TopEntryPoint::of(entry), text, edition)?;
+    Ok(given)
 }
 
 fn parse(alloc: Global, entry: Entry, text: &str, edition: Edition) -> Result<Output, AllocError>
@@ -207,6 +272,17 @@ impl FrontEnd for Rust {
         edition: Edition,
     ) -> Result<Output, AllocError> {
         parse(alloc, entry, text, edition)
+    }
+
+    fn parse_into<S: StepSink + Drop>(
+        &self,
+        alloc: Global,
+        entry: Entry,
+        text: &str,
+        edition: Edition,
+    ) -> Result<(S, Vec<SyntaxError>), AllocError> {
+        let given = parse_into(alloc, entry, text, edition)?;
+        Ok(given)
     }
 
     fn single_token(

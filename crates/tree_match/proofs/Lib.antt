@@ -9,3 +9,4 @@ pub mod ReadLemmas
 pub mod PlaceLemmas
 pub mod RootLemmas
 pub mod JumpLemmas
+pub mod AmongLemmas

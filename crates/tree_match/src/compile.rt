@@ -101,7 +101,10 @@ pub(crate) fn is_hole(node: &SyntaxNode, prefix: &str) -> bool {
 impl<'a> Words<'a> {
     // Whether a placeholder is one for a list.
     fn is_list(&self, number: usize) -> bool {
-        self.holes.get(number).is_some_and(|hole| hole.is_list)
+        match self.holes.get(number) {
+            Some(hole) => hole.is_list,
+            None => false,
+        }
     }
 
     // The placeholder that a node is, with what it can stand for.
@@ -130,11 +133,11 @@ impl<'a> Words<'a> {
     // The placeholder that is next in a walk; passes over it.
     fn next_hole(&self, walk: &mut Walk<'_>) -> Option<Part> {
         let (kind, text) = walk.peek()?;
-        let hole = self.hole_at(kind, text)?;
-        if let Part::Hole(_, sort) = &hole {
-            walk.take(*sort);
+        let hole = self.hole_at(kind, text);
+        if hole.is_some() {
+            walk.pass();
         }
-        Some(hole)
+        hole
     }
 
     // The part of a token behind some parts: a word if it is that of a name.
@@ -165,31 +168,26 @@ impl<'a> Words<'a> {
         }
     }
 
-    // Adds the part of a step, in a node in others of some kinds, the innermost last. Returns false
-    // at the end.
-    fn push_step(
+    // The part of a step, in a node in others of some kinds, the innermost last; `None` at the end.
+    fn part_of(
         &self,
         alloc: Global,
         step: Seen<'_>,
         around: &mut Vec<SyntaxKind>,
-        parts: &mut Vec<Part>,
-    ) -> Result<bool, AllocError> {
+        before: Option<&Part>,
+    ) -> Result<Option<Part>, AllocError> {
         match step {
             Seen::Enter(kind) => {
                 around.push(kind)?;
-                parts.push(Part::Enter(kind))?;
+                Ok(Some(Part::Enter(kind)))
             }
             Seen::Leave => {
                 around.pop();
-                parts.push(Part::Leave)?;
+                Ok(Some(Part::Leave))
             }
-            Seen::Token(kind, text) => {
-                let part = self.token(alloc, parts.last(), kind, text)?;
-                parts.push(part)?;
-            }
-            Seen::End => return Ok(false),
+            Seen::Token(kind, text) => Ok(Some(self.token(alloc, before, kind, text)?)),
+            Seen::End => Ok(None),
         }
-        Ok(true)
     }
 
     // Adds the part that is next in a walk, and passes over it. Returns false at the end.
@@ -200,12 +198,34 @@ impl<'a> Words<'a> {
         around: &mut Vec<SyntaxKind>,
         parts: &mut Vec<Part>,
     ) -> Result<bool, AllocError> {
-        if let Some(placeholder) = self.next_placeholder(walk, innermost(around)) {
-            parts.push(placeholder)?;
-            return Ok(true);
+        let next = match self.next_placeholder(walk, innermost(around)) {
+            Some(placeholder) => Some(placeholder),
+            None => self.part_of(alloc, walk.next()?, around, parts.last())?,
+        };
+        match next {
+            Some(part) => {
+                parts.push(part)?;
+                Ok(true)
+            }
+            None => Ok(false),
         }
-        let step = walk.next()?;
-        self.push_step(alloc, step, around, parts)
+    }
+
+    // Adds the parts that are left in a walk.
+    fn push_all(
+        &self,
+        alloc: Global,
+        walk: &mut Walk<'_>,
+        around: &mut Vec<SyntaxKind>,
+        parts: &mut Vec<Part>,
+    ) -> Result<(), AllocError> {
+        // Each turn takes a step, until memory runs out.
+        for _turn in 0..u64::MAX {
+            if !self.push_next(alloc, walk, around, parts)? {
+                return Ok(());
+            }
+        }
+        Ok(())
     }
 
     // Adds the parts of a node's children, up to its end.
@@ -218,13 +238,7 @@ impl<'a> Words<'a> {
         let mut walk = Walk::new(alloc, Comments::Passed, &Run::of(node.trees()));
         let mut around = Vec::new(alloc);
         around.push(node.kind())?;
-        // There are at most as many steps as events.
-        for _event in node.preorder_with_tokens() {
-            if !self.push_next(alloc, &mut walk, &mut around, parts)? {
-                return Ok(());
-            }
-        }
-        Ok(())
+        self.push_all(alloc, &mut walk, &mut around, parts)
     }
 
     // The parts of a node, itself included.

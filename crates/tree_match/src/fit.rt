@@ -4,7 +4,6 @@ use crate::part::{Comma, Part, Sort};
 use crate::rule::RuleRefusal;
 use lossless_tree::SyntaxKind;
 use std::alloc::{AllocError, Global};
-use std::vec::IntoIter;
 
 fn is_comma(part: Option<&Part>) -> bool {
     matches!(part, Some(Part::Token(SyntaxKind::COMMA, _)))
@@ -76,58 +75,33 @@ fn fitted_at(
     }
 }
 
-// The lists among some parts in their order, each with its comma, which it marks, and the nodes
-// behind it.
-fn fitted_lists(
-    alloc: Global,
-    parts: &[Part],
-    is_gone: &mut [bool],
-) -> Result<Vec<Part>, RuleRefusal> {
-    let mut fitted = Vec::new(alloc);
+// Gives the lists among some parts their commas, which it marks, and the nodes behind them.
+fn fit_each(alloc: Global, parts: &mut Vec<Part>, is_gone: &mut [bool]) -> Result<(), RuleRefusal> {
     let mut seen = Vec::new(alloc);
-    for (index, part) in parts.iter().enumerate() {
-        let Part::List(number, ..) = part else {
+    for index in 0..parts.len() {
+        let Some(Part::List(number, ..)) = parts.get(index) else {
             continue;
         };
-        if seen.contains(number) {
-            return Err(RuleRefusal::Twice(*number));
+        let number = *number;
+        if seen.contains(&number) {
+            return Err(RuleRefusal::Twice(number));
         }
-        seen.push(*number).map_err(AllocError::from)?;
-        let list = fitted_at(parts, index, *number, is_gone)?;
-        fitted.push(list).map_err(AllocError::from)?;
-    }
-    Ok(fitted)
-}
-
-// Adds a part; for a list the next one of those that know their commas.
-fn push_fitted(
-    out: &mut Vec<Part>,
-    lists: &mut IntoIter<Part>,
-    part: Part,
-) -> Result<(), AllocError> {
-    match part {
-        Part::List(..) => {
-            if let Some(list) = lists.next() {
-                out.push(list)?;
-            }
+        seen.push(number).map_err(AllocError::from)?;
+        let list = fitted_at(parts, index, number, is_gone)?;
+        if let Some(part) = parts.get_mut(index) {
+            *part = list;
         }
-        part => out.push(part)?,
     }
     Ok(())
 }
 
-// The parts but for those that are marked, with these lists.
-fn with_lists(
-    alloc: Global,
-    parts: Vec<Part>,
-    is_gone: &[bool],
-    fitted: Vec<Part>,
-) -> Result<Vec<Part>, AllocError> {
-    let mut lists = fitted.into_iter();
+// The parts but for those that are marked.
+fn unmarked(alloc: Global, parts: Vec<Part>, is_gone: &[bool]) -> Result<Vec<Part>, AllocError> {
     let mut out = Vec::with_capacity(alloc, parts.len())?;
-    for (index, part) in parts.into_iter().enumerate() {
-        if !matches!(is_gone.get(index), Some(true)) {
-            push_fitted(&mut out, &mut lists, part)?;
+    let mut marks = is_gone.iter();
+    for part in parts {
+        if !matches!(marks.next(), Some(true)) {
+            out.push(part)?;
         }
     }
     Ok(out)
@@ -139,8 +113,8 @@ fn with_lists(
 /// # Errors
 ///
 /// `Twice` if a list comes twice or two are on one level; `Memory`.
-pub(crate) fn fit_lists(alloc: Global, parts: Vec<Part>) -> Result<Vec<Part>, RuleRefusal> {
+pub(crate) fn fit_lists(alloc: Global, mut parts: Vec<Part>) -> Result<Vec<Part>, RuleRefusal> {
     let mut is_gone = vec![in alloc; false; parts.len()]?;
-    let fitted = fitted_lists(alloc, &parts, &mut is_gone)?;
-    Ok(with_lists(alloc, parts, &is_gone, fitted)?)
+    fit_each(alloc, &mut parts, &mut is_gone)?;
+    Ok(unmarked(alloc, parts, &is_gone)?)
 }

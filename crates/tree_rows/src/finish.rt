@@ -10,7 +10,7 @@ ghost use Rattle.tree_rows.specs.Run.{text_len, row_count};
 
 use crate::builder_event::{BuilderEvent, TreeStep};
 use crate::kept::Kept;
-use crate::rows::{Row, Rows};
+use crate::row_builder::RowBuilder;
 use std::alloc::{AllocError, Global};
 use tree_model::FinishError;
 
@@ -82,46 +82,8 @@ pub fn build_rows<S: TreeStep>(alloc: Global, steps: &[S]) -> Result<Kept, Alloc
     ensures { IfOk result (λ rows. (f : Forest)
         → filter_map S.step_event steps.now ≡ map step_of (events_of f) → rows ≡ columns_of f) }
 {
-    let mut rows = Rows::with_capacity(alloc, row_count(steps))?;
-    let mut innermost: usize = 0;
-    let mut at: u32 = 0;
-    for step in steps {
-        match step.event() {
-            Some(BuilderEvent::Enter(kind)) => {
-                let row = rows.len();
-                let open = Row {
-                    kind,
-                    is_token: false,
-                    start: at,
-                    end: 0,
-                };
-                rows.push(open, innermost)?;
-                innermost = row;
-            }
-            Some(BuilderEvent::Token(kind, len)) => {
-                let end = rows.len() + 1;
-                let token = Row {
-                    kind,
-                    is_token: true,
-                    start: at,
-                    end,
-                };
-                rows.push(token, innermost)?;
-                at += len as u32;
-            }
-            Some(BuilderEvent::Exit) => {
-                // No prefix of the steps has more exits than enters, so an exit always finds its
-                // node.
-                let row = innermost;
-                if row < rows.len() {
-                    let end = rows.len();
-                    innermost = rows.parent(row);
-                    rows.set_end(row, end);
-                }
-            }
-            None => {}
-        }
-    }
-    let kept = Kept::new(alloc, rows)?;
+    let mut rows = RowBuilder::with_capacity(alloc, row_count(steps))?;
+    rows.take(steps)?;
+    let kept = rows.finish(alloc)?;
     Ok(kept)
 }

@@ -1,8 +1,8 @@
-use Rattle.std.proofs.Common.{◌+◌, List, drop, subst}
+use Rattle.std.proofs.Common.{◌+◌, List, drop, subst, arith}
 use Rattle.tree_match.specs.declared.rule.Form.{Form}
 use Rattle.tree_match.specs.Roots.{HaveForms}
-use Rattle.tree_match.proofs.PlaceLemmas.{drop_item}
-use Rattle.tree_match.proofs.RootLemmas.{one_rule}
+use Rattle.tree_match.proofs.PlaceLemmas.{drop_item, drop_none}
+use Rattle.tree_match.proofs.RootLemmas.{no_rules, one_rule, all_rules}
 use Rattle.tree_match.proofs.roots.kinds_of.Goals as goal
 
 pub loop-rule-preserved : goal.loop-rule-preserved
@@ -11,3 +11,12 @@ loop-rule-preserved c =
     c.rule-item.result c.loop-rule.kinds.items c.add_forms.new.kinds.items c.loop-rule.invariant
     (drop_item c.args.rules.now c.loop-rule.rule-index c.rule-item.result c.loop-rule-test.true c.rule-item.is)
     (subst (λ (fs : List Form). HaveForms fs c.loop-rule.kinds.items c.add_forms.new.kinds.items) c.deref.ensures.value c.in_ok-add_forms.ensures)
+
+pub loop-rule-init : goal.loop-rule-init
+loop-rule-init c = no_rules c.args.rules.now _
+
+pub returns : goal.returns
+returns c =
+    all_rules (drop c.loop-rule.rule-index c.args.rules.now) c.args.rules.now
+    c.loop-rule.kinds.items c.loop-rule.invariant
+    (drop_none c.args.rules.now c.loop-rule.rule-index (omega (arith, c.loop-rule-test.false)))

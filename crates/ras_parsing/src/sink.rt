@@ -1,0 +1,142 @@
+//! From the steps of a parse to a tree, as they come.
+ghost use Rattle.std.specs.Prelude.{◌≡◌, ◌<◌, ◌^◌, ◌++◌, ◌∷◌, [], List, None, Some, length, IfOk, OnOk, string_bytes};
+ghost use Rattle.ras_front_end.specs.TreeEvent.{tree_event};
+ghost use Rattle.tree_model.specs.Cursor.{IsRoot};
+ghost use Rattle.ras_front_end.specs.Parsed.{IsParseOf, ErrorsLieIn};
+ghost use Rattle.ras_front_end.specs.Reading.{FrontStep, front_step, step_faults, reports};
+ghost use Rattle.ras_parsing.specs.Sinks.{AreOf};
+
+use crate::build::store;
+use lossless_tree::{BuilderEvent, RowBuilder, SyntaxNode, TreeStep, tree_of_rows};
+use ras_front_end::{Edition, Entry, FrontEnd, Step, StepSink, SyntaxError};
+use std::alloc::{AllocError, Global};
+use text_size::TextSize;
+
+/// A tree whose steps come in parts, and the parser's errors among them.
+#[derive(Drop)]
+pub(crate) struct TreeSink {
+    rows: RowBuilder,
+    errors: Vec<SyntaxError>,
+}
+
+impl TreeSink {
+    fn add_error(&mut self, message: String, position: TextSize) -> Result<(), AllocError>
+        ensures { OnOk result ((before : List FrontStep)
+            → AreOf self.old.rows self.old.errors.items before
+            → AreOf self.new.rows self.new.errors.items
+            (before ++ reports (string_bytes message) position ∷ [])) }
+    {
+        store(
+            &mut self.errors,
+            SyntaxError::new_at_offset(message, position),
+        )?;
+        Ok(())
+    }
+
+    #[inline(always)]
+    fn add_event(&mut self, step: &Step, event: BuilderEvent) -> Result<(), AllocError>
+        requires { tree_event step.now ≡ Some event }
+        ensures { OnOk result ((before : List FrontStep)
+            → AreOf self.old.rows self.old.errors.items before
+            → AreOf self.new.rows self.new.errors.items (before ++ front_step step.now ∷ [])) }
+    {
+        self.rows.add(event)?;
+        Ok(())
+    }
+
+    // A step without an event is an error, and rare.
+    #[cold]
+    #[inline(never)]
+    fn add_other(&mut self, step: &Step) -> Result<(), AllocError>
+        requires { tree_event step.now ≡ None }
+        ensures { OnOk result ((before : List FrontStep)
+            → AreOf self.old.rows self.old.errors.items before
+            → AreOf self.new.rows self.new.errors.items (before ++ front_step step.now ∷ [])) }
+    {
+        match step {
+            Step::Error(position, message) => {
+                let text: &String = message;
+                self.add_error(text.clone()?, *position)
+            }
+            Step::Enter(_) | Step::Token(_, _) | Step::Exit => Ok(()),
+        }
+    }
+
+    #[inline(always)]
+    fn add(&mut self, step: &Step) -> Result<(), AllocError>
+        ensures { OnOk result ((before : List FrontStep)
+            → AreOf self.old.rows self.old.errors.items before
+            → AreOf self.new.rows self.new.errors.items (before ++ front_step step.now ∷ [])) }
+    {
+        match step.event() {
+            Some(event) => self.add_event(step, event),
+            None => self.add_other(step),
+        }
+    }
+}
+
+impl StepSink for TreeSink {
+    ghost use Rattle.ras_parsing.specs.Sinks.{AreOf};
+
+    ghost took = { λ sink steps. AreOf sink.rows sink.errors.items steps };
+
+    fn with_room(alloc: Global, elements: usize) -> Result<TreeSink, AllocError> {
+        let rows = RowBuilder::with_capacity(alloc, elements)?;
+        Ok(TreeSink {
+            rows,
+            errors: Vec::new(alloc),
+        })
+    }
+
+    fn take(&mut self, steps: &[Step]) -> Result<(), AllocError> {
+        for step in steps {
+            self.add(step)?;
+        }
+        Ok(())
+    }
+
+    fn report(&mut self, message: String, position: TextSize) -> Result<(), AllocError> {
+        self.add_error(message, position)
+    }
+}
+
+/// The root of a new tree, and the errors in its text, of which the first are the parser's.
+#[derive(Drop)]
+pub(crate) struct Read {
+    /// The root.
+    pub root: SyntaxNode,
+    /// The errors: the parser's in the order of the steps, and then the lexer's.
+    pub errors: Vec<SyntaxError>,
+    /// How many of the errors are the parser's.
+    pub parser_errors: usize,
+}
+
+/// The tree that a front end makes of a text, and its errors. No list of all steps is made.
+pub(crate) fn read_tree<F: FrontEnd>(
+    alloc: Global,
+    front: &F,
+    entry: Entry,
+    text: &str,
+    edition: Edition,
+) -> Result<Read, AllocError>
+    requires short { length text.now < 2 ^ 32 }
+    ensures root { IfOk result (λ r. IsRoot r.root) }
+    ensures parsed { IfOk result (λ r.
+        IsParseOf text.now ((F.answers front.now).parsed entry edition text.now)
+        (record { tree = r.root.tree; errors = r.errors.items })) }
+    ensures in_text { IfOk result
+        (λ r. ErrorsLieIn (record { tree = r.root.tree; errors = r.errors.items })) }
+    ensures counted { IfOk result (λ r. r.parser_errors
+        ≡ length (step_faults ((F.answers front.now).parsed entry edition text.now).steps)) }
+{
+    let (sink, mut lexer_errors) = front.parse_into::<TreeSink>(alloc, entry, text, edition)?;
+    let TreeSink { rows, mut errors } = sink;
+    let parser_errors = errors.len();
+    let root = tree_of_rows(alloc, text, rows)?;
+    errors.append(&mut lexer_errors)?;
+    Ok(Read {
+        root,
+        errors,
+        parser_errors,
+    })
+}
