@@ -6,16 +6,13 @@
 #![tactic(auto)]
 
 mod choice;
-mod errors;
 mod fill;
-mod flat;
 mod handle;
 mod held;
 mod kept;
 mod kinds;
 mod live;
 mod loose;
-mod owner;
 mod parens;
 mod parsed;
 mod part;
@@ -24,7 +21,6 @@ mod rewriting;
 mod root;
 mod status;
 mod tokens;
-mod tree;
 mod values;
 mod version;
 mod violations;

@@ -114,8 +114,7 @@ fn write_rows(node: &SyntaxNode, rows: &mut [FlatRow]) -> usize
     node.write_flat_rows(rows)
 }
 
-/// How many errors a parse has without the violations.
-pub(crate) fn stored_count(parse: &Parse<Root>) -> usize
+fn stored_count(parse: &Parse<Root>) -> usize
     ensures { result ≡ length parse.now.errors }
 {
     parse.stored().len()

@@ -8,7 +8,7 @@ pub mod Run
 pub mod Making
 pub mod RowEquality
 pub mod RowEqualityLaws
-pub mod Stored
+pub mod PackedRow
 pub mod StartsMoved
 pub mod Flat
 pub mod KindSearch

@@ -35,7 +35,8 @@ impl Table {
     {
         let count = rows.len();
         self.rows.copy_to(rows, first, end)?;
-        rows.move_from(count, by)
+        rows.move_from(count, by);
+        Ok(())
     }
 
     // The rows of the node at row `n` after `rows`, moved so that the node has the row `to`, starts
