@@ -4,8 +4,6 @@
  */
 #include "ras.h"
 #include <stdio.h>
-#include <stdlib.h>
-#include <string.h>
 
 #define TOKEN (1u << 31)
 
@@ -18,24 +16,27 @@ int main(int argc, char **argv) {
     size_t length = fread(text, 1, sizeof text, file);
     fclose(file);
 
+    ras_handle parse = {0};
+    ras_tree_rows tree = {0};
     ras_counts counts = {0, 0, 0, 0};
-    ras_c_read(text, length, 2024, NULL, 0, NULL, 0, NULL, 0, &counts);
-    ras_flat_row *rows = malloc(counts.rows * sizeof *rows);
-    ras_error_row *errors = malloc((counts.errors + 1) * sizeof *errors);
-    uint8_t *messages = malloc(counts.messages + 1);
-    uint32_t status = ras_c_read(text, length, 2024, rows, counts.rows, errors, counts.errors, messages, counts.messages, &counts);
+    uint32_t status = ras_c_parse(text, length, 2024, &parse);
+    /* Without room the errors are only counted. Then the library hands over the tree. */
+    if (status == RAS_OK) status = ras_c_errors(&parse, RAS_ALL_ERRORS, NULL, 0, NULL, 0, &counts);
+    if (status == RAS_OK || status == RAS_NO_ROOM) status = ras_c_take_tree(&parse, &tree);
+    ras_c_free(&parse);
     if (status != RAS_OK) return fprintf(stderr, "outline: status %u\n", status), 1;
 
+    const ras_flat_row *rows = tree.rows;
     uint32_t fn = ras_c_kind_of_name((const uint8_t *)"FN", 2), name = ras_c_kind_of_name((const uint8_t *)"NAME", 4);
     unsigned line = 1;
     size_t at = 0;
-    for (uint32_t n = 0; n < counts.rows; n++) {
+    for (size_t n = 0; n < tree.row_count; n++) {
         if (rows[n].kind != name || rows[rows[n].parent].kind != fn) continue;
-        for (; at < rows[n].start; at++) line += text[at] == '\n';
-        uint32_t end = rows[n].subtree_end < counts.rows ? rows[rows[n].subtree_end].start : (uint32_t)length;
-        printf("%u: %.*s\n", line, (int)(end - rows[n].start), text + rows[n].start);
+        for (; at < rows[n].start; at++) line += tree.text[at] == '\n';
+        size_t end = rows[n].subtree_end < tree.row_count ? rows[rows[n].subtree_end].start : tree.text_len;
+        printf("%u: %.*s\n", line, (int)(end - rows[n].start), tree.text + rows[n].start);
     }
     printf("%u errors\n", counts.errors);
-    free(rows), free(errors), free(messages);
+    ras_c_free_tree(&tree);
     return 0;
 }

@@ -144,7 +144,7 @@ void rattle_dealloc(void *at);
 #define RAS_FAULT 64u
 
 /* A number made of the kinds, constants, structs and calls of the library. Bindings that know another number were made for others. */
-#define RAS_VERSION 1112105567u
+#define RAS_VERSION 1658320449u
 
 /* The statuses of a wrong escape or character. */
 enum ras_fault {
@@ -547,6 +547,14 @@ typedef struct {
     void *at;
 } ras_handle;
 
+/* The memory of a tree that was handed over, or none. Its fields are private to the library. */
+typedef struct {
+    /* Whether there is a tree. */
+    bool full;
+    /* Where its memory is. */
+    void *at;
+} ras_tree_owner;
+
 /* A range of the text, in bytes. */
 typedef struct {
     /* Where it starts. */
@@ -606,6 +614,27 @@ typedef struct {
     uint32_t bytes;
 } ras_token_row;
 
+/*
+ * A tree in memory that the caller owns: its rows, those that ras_c_rows writes, and its text.
+ * All zeros is no tree.
+ *
+ * Nothing changes the rows and the text, so any number of threads may read them, until
+ * ras_c_free_tree frees them. It may be called by any thread, once: not for a copy of the struct
+ * too. Only the library changes the fields.
+ */
+typedef struct {
+    /* The rows, in preorder. Where there is no tree it is null. */
+    const ras_flat_row *rows;
+    /* How many rows there are: at least one, and fewer than 2^32. */
+    size_t row_count;
+    /* The bytes of the text, which is UTF-8. Nothing may be read there if it is empty. */
+    const uint8_t *text;
+    /* How many bytes the text has: fewer than 2^32. */
+    size_t text_len;
+    /* What owns the memory. It is private to the library. */
+    ras_tree_owner owner;
+} ras_tree_rows;
+
 /* What a word is in an edition. */
 typedef struct {
     /*
@@ -629,6 +658,22 @@ typedef struct {
      */
     bool is_raw_identifier;
 } ras_word;
+
+/*
+ * Writes a choice of the errors of a handle's parse, such as RAS_PARSE_ERRORS, and their messages,
+ * as ras_c_rows_as does, without rows. The counts have no rows. The handle keeps its parse.
+ *
+ * Returns RAS_OK, RAS_TOO_LONG, RAS_NO_MEMORY, RAS_NO_ROOM, RAS_NO_CHOICE, or RAS_NO_PARSE if the
+ * handle holds no parse.
+ */
+uint32_t ras_c_errors(
+    ras_handle *handle,
+    uint32_t told,
+    ras_error_row *errors,
+    size_t errors_len,
+    uint8_t *messages,
+    size_t messages_len,
+    ras_counts *counts);
 
 /*
  * Writes the name of the kind with this number, for example FN, to the front of name, and
@@ -931,6 +976,25 @@ uint32_t ras_c_tokens(
     ras_token_row *tokens,
     size_t tokens_len,
     uint32_t *count);
+
+/*
+ * Takes the tree of a handle's parse out of it, as rows and text that the caller owns from then
+ * on, without a copy of them. The handle then holds no parse. A tree that tree held is freed.
+ *
+ * Returns RAS_OK, RAS_TOO_LONG if the tree has 2^32 rows or more, RAS_NO_MEMORY, or RAS_NO_PARSE
+ * if the handle holds no parse. Unless it is RAS_OK, tree is not changed; if it is
+ * RAS_NO_MEMORY, the parse of the handle is freed, and else the handle is not changed.
+ */
+uint32_t ras_c_take_tree(
+    ras_handle *handle,
+    ras_tree_rows *tree);
+
+/*
+ * Frees the rows and the text of a tree, if there is one. It then is none, all zeros, and may be
+ * used again.
+ */
+void ras_c_free_tree(
+    ras_tree_rows *tree);
 
 /*
  * Writes the value of a string with this text, quotes and prefix with it, to the front of value,

@@ -472,6 +472,89 @@ static void tells_parts_of_the_rows(void) {
     owes(held == 0, "a freed handle holds nothing");
 }
 
+/* The errors of a handle's parse without its rows: those that the library writes beside the rows. */
+static void tells_errors(void) {
+    static ras_error_row with_rows[ERRORS];
+    static uint8_t texts[MESSAGES];
+    ras_handle live = {0};
+    ras_counts all, counts = {9, 9, 9, 9};
+    owes(ras_c_errors(&live, RAS_ALL_ERRORS, errors, ERRORS, messages, MESSAGES, &counts) == RAS_NO_PARSE && counts.errors == 9, "an empty handle has no errors");
+    owes(ras_c_parse(BYTES(TEXT), 2024, &live) == RAS_OK, "a text with errors is parsed");
+    owes(ras_c_errors(&live, 4, errors, ERRORS, messages, MESSAGES, &counts) == RAS_NO_CHOICE && counts.errors == 9, "no choice of errors has the number");
+    for (uint32_t choice = RAS_NO_ERRORS; choice <= RAS_ALL_ERRORS; choice++) {
+        owes(ras_c_rows_as(&live, choice, rows, ROWS, with_rows, ERRORS, texts, MESSAGES, &all) == RAS_OK, "errors stand beside rows");
+        owes(ras_c_errors(&live, choice, errors, ERRORS, messages, MESSAGES, &counts) == RAS_OK && counts.rows == 0 && counts.errors == all.errors
+            && counts.violations == all.violations && counts.messages == all.messages, "and alone");
+        owes(!memcmp(errors, with_rows, all.errors * sizeof *errors) && !memcmp(messages, texts, all.messages), "they are the same");
+        owes(ras_c_errors(&live, choice, errors, all.errors, messages, all.messages, &counts) == RAS_OK, "just enough room is enough");
+        if (!all.errors) continue;
+        counts = (ras_counts){9, 9, 9, 9};
+        memset(errors, 7, sizeof errors);
+        owes(ras_c_errors(&live, choice, errors, all.errors - 1, messages, MESSAGES, &counts) == RAS_NO_ROOM && counts.errors == all.errors
+            && ras_c_errors(&live, choice, errors, ERRORS, messages, all.messages - 1, &counts) == RAS_NO_ROOM && counts.messages == all.messages
+            && errors[0].start == 0x07070707u, "less is too little");
+    }
+    ras_c_free(&live);
+    owes(held == 0, "a freed handle holds nothing");
+}
+
+/* Whether a tree has the text, and the rows that the library writes for it. */
+static bool is_tree_of(const ras_tree_rows *tree, const char *text) {
+    ras_counts counts = {0, 0, 0, 0};
+    return ras_c_read(BYTES(text), 2024, rows, ROWS, errors, ERRORS, messages, MESSAGES, &counts) == RAS_OK && tree->row_count == counts.rows
+        && !memcmp(tree->rows, rows, counts.rows * sizeof *rows) && tree->text_len == strlen(text)
+        && (!tree->text_len || !memcmp(tree->text, text, tree->text_len));
+}
+
+static bool is_no_tree(const ras_tree_rows *tree) {
+    return !tree->rows && !tree->row_count && !tree->text && !tree->text_len && !tree->owner.full && !tree->owner.at;
+}
+
+/* Trees that are handed over: the handle is empty then, and they have what the library writes. */
+static void hands_trees_over(void) {
+    ras_handle live = {0}, none = {0};
+    ras_tree_rows tree = {0}, other = {0};
+    owes(ras_c_take_tree(&live, &tree) == RAS_NO_PARSE && is_no_tree(&tree), "an empty handle has no tree");
+    ras_c_free_tree(&tree);
+    owes(is_no_tree(&tree), "no tree may be freed");
+    owes(ras_c_parse(BYTES(TEXT), 2024, &live) == RAS_OK && ras_c_take_tree(&live, &tree) == RAS_OK, "a tree is handed over");
+    owes(!memcmp(&live, &none, sizeof live) && ras_c_take_tree(&live, &other) == RAS_NO_PARSE && is_no_tree(&other), "once");
+    owes(is_tree_of(&tree, TEXT), "it is that of the text");
+    owes(ras_c_parse(BYTES(""), 2024, &live) == RAS_OK && ras_c_take_tree(&live, &other) == RAS_OK, "so is that of no text");
+    owes(is_tree_of(&other, "") && is_tree_of(&tree, TEXT), "each has its own");
+    ras_c_free(&live);
+    owes(is_tree_of(&tree, TEXT), "a tree outlives its handle");
+    /* What takes the place of a tree frees it. */
+    owes(ras_c_parse(BYTES(OLD), 2024, &live) == RAS_OK, "an emptied handle holds another parse");
+    owes(edit(&live, 3, 6, "bar") == RAS_OK && edit(&live, 19, 20, "{ 2 }") == RAS_OK, "which is edited");
+    owes(ras_c_take_tree(&live, &tree) == RAS_OK && is_tree_of(&tree, "fn bar() { let x = { 2 }; }"), "the tree is that of the edited text");
+    owes(ras_c_take_tree(&live, &tree) == RAS_NO_PARSE && is_tree_of(&tree, "fn bar() { let x = { 2 }; }"), "a refused call leaves the tree");
+    ras_c_free_tree(&tree), ras_c_free_tree(&other);
+    owes(is_no_tree(&tree) && is_no_tree(&other), "a freed tree is none");
+    ras_c_free_tree(&tree);
+    owes(held == 0, "freed trees hold nothing");
+}
+
+/* A tree at a heap that may refuse: it is handed over, or the handle is empty. */
+static void refuses_trees(void) {
+    ras_handle live = {0}, none = {0};
+    ras_tree_rows tree = {0};
+    uint32_t status = ras_c_parse(BYTES(OLD), 2024, &live);
+    if (status == RAS_OK) status = edit(&live, 3, 6, "bar");
+    if (status == RAS_OK) {
+        status = ras_c_take_tree(&live, &tree);
+        owes(status == RAS_OK || (status == RAS_NO_MEMORY && is_no_tree(&tree)), "a tree is handed over or refused");
+        owes(!memcmp(&live, &none, sizeof live), "the handle is empty either way");
+        long left = granted, before = asked;
+        granted = -1;
+        owes(status != RAS_OK || is_tree_of(&tree, "fn bar() { let x = 1; }"), "the tree is that of the text");
+        granted = left, asked = before;
+    }
+    ras_c_free_tree(&tree);
+    ras_c_free(&live);
+    owes(held == 0, "neither leaves a block behind");
+}
+
 /* Edits of a name, in a block and before all, at a heap that may refuse: each is done, or leaves the handle as it was. */
 static void refuses_edits(void) {
     static const struct { uint32_t start, end; const char *insert, *text; } steps[] = {
@@ -514,6 +597,9 @@ static void refuses_parts(void) {
         status = violations_among(&live, 0, 4, ERRORS, MESSAGES, &counts);
         owes(status == RAS_OK ? counts.violations == 0 : status == RAS_NO_MEMORY && counts.rows == 9, "so are those among some rows");
         owes(ras_c_rows_from(&live, 1, rows, 2) == RAS_OK, "rows need no memory");
+        counts = (ras_counts){9, 9, 9, 9};
+        status = ras_c_errors(&live, RAS_ALL_ERRORS, errors, ERRORS, messages, MESSAGES, &counts);
+        owes(status == RAS_OK ? counts.violations == 1 : status == RAS_NO_MEMORY && counts.rows == 9, "errors are told or refused");
     }
     ras_c_free(&live);
     owes(held == 0, "a handle leaves no block behind");
@@ -554,6 +640,7 @@ static void refuses(void) {
         "rewrite is done or refused");
     refuses_edits();
     refuses_parts();
+    refuses_trees();
 }
 
 int main(void) {
@@ -568,6 +655,8 @@ int main(void) {
     tells_what_is_new();
     tells_violations_of_a_part();
     tells_parts_of_the_rows();
+    tells_errors();
+    hands_trees_over();
     asked = 0;
     refuses();
     long all = asked;

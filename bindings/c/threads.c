@@ -1,5 +1,6 @@
 /* Calls the library from several threads at once. Each has its own texts, buffers and handle, and is told what one thread alone is told;
- * one more handle goes round, and each thread in turn edits its text.
+ * one more handle goes round, and each thread in turn edits its text. All of them read one tree that was handed over, and the last one to
+ * be done with it frees it.
  *
  * It is built with -fsanitize=thread, which sees what this file does and how memory is taken and freed, and runs under valgrind's
  * helgrind too, which also sees what the library does.
@@ -89,8 +90,24 @@ static void take_turn(int number) {
     pthread_mutex_unlock(&lock);
 }
 
+/* A tree that was handed over, and how many threads have not read it yet. */
+static ras_tree_rows shared_tree;
+static int readers = THREADS;
+
+/* Reads the tree outside of the lock. */
+static void read_shared(void) {
+    size_t tokens = 0;
+    for (size_t n = 0; n < shared_tree.row_count; n++) tokens += shared_tree.rows[n].kind >> 31;
+    owes(tokens < shared_tree.row_count && !memcmp(shared_tree.text, alone[0].text, shared_tree.text_len)
+        && !memcmp(shared_tree.rows, alone[0].rows, shared_tree.row_count * sizeof *shared_tree.rows), "a tree is read by all");
+    pthread_mutex_lock(&lock);
+    if (--readers == 0) ras_c_free_tree(&shared_tree);
+    pthread_mutex_unlock(&lock);
+}
+
 static void *work(void *at) {
     int number = (int)((told *)at - beside);
+    read_shared();
     for (int n = 0; n < ROUNDS; n++) {
         tell(at, number);
         owes(memcmp(at, &alone[number], sizeof(told)) == 0, "a thread is told the same beside others");
@@ -104,9 +121,12 @@ int main(void) {
     for (int n = 0; n < THREADS; n++) tell(&alone[n], n);
     strcpy(round_text, "fn f() {}");
     owes(ras_c_parse(BYTES(round_text), 2024, &round_handle) == RAS_OK, "a handle to go round");
+    ras_handle parse = {0};
+    owes(ras_c_parse(BYTES(alone[0].text), 2024, &parse) == RAS_OK && ras_c_take_tree(&parse, &shared_tree) == RAS_OK, "a tree for all");
     for (int n = 0; n < THREADS; n++) owes(pthread_create(&threads[n], NULL, work, &beside[n]) == 0, "a thread");
     for (int n = 0; n < THREADS; n++) owes(pthread_join(threads[n], NULL) == 0, "a thread ends");
     owes(turn == THREADS * TURNS, "all turns were taken");
+    owes(readers == 0 && !shared_tree.rows, "the last reader freed the tree");
     ras_c_free(&round_handle);
     printf("%d threads, %d turns of one handle\n", THREADS, turn);
     return 0;

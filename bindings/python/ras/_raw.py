@@ -100,7 +100,7 @@ TOO_LARGE = 10
 FAULT = 64
 
 # A number made of the kinds, constants, structs and calls of the library. Bindings that know another number were made for others.
-VERSION = 1112105567
+VERSION = 1658320449
 
 # What can be wrong with an escape or a character: the names and the messages, from the status FAULT on.
 FAULTS = [
@@ -143,6 +143,15 @@ class FlatRow(ctypes.Structure):
 
 class Handle(ctypes.Structure):
     """A parse that is kept between calls, or no parse. A handle of all zeros holds none."""
+
+    _fields_ = [
+        ("full", ctypes.c_bool),
+        ("at", ctypes.c_void_p),
+    ]
+
+
+class TreeOwner(ctypes.Structure):
+    """The memory of a tree that was handed over, or none. Its fields are private to the library."""
 
     _fields_ = [
         ("full", ctypes.c_bool),
@@ -208,6 +217,18 @@ class TokenRow(ctypes.Structure):
     ]
 
 
+class TreeRows(ctypes.Structure):
+    """A tree in memory that the caller owns: its rows, those that `ras_c_rows` writes, and its text."""
+
+    _fields_ = [
+        ("rows", ctypes.c_void_p),
+        ("row_count", ctypes.c_size_t),
+        ("text", ctypes.c_void_p),
+        ("text_len", ctypes.c_size_t),
+        ("owner", TreeOwner),
+    ]
+
+
 class Word(ctypes.Structure):
     """What a word is in an edition."""
 
@@ -221,6 +242,8 @@ class Word(ctypes.Structure):
 
 def declare(library):
     """Says of each function of the library what it takes and answers."""
+    library.ras_c_errors.argtypes = [ctypes.c_void_p, ctypes.c_uint32, ctypes.c_void_p, ctypes.c_size_t, ctypes.c_void_p, ctypes.c_size_t, ctypes.c_void_p]
+    library.ras_c_errors.restype = ctypes.c_uint32
     library.ras_c_kind_name.argtypes = [ctypes.c_uint32, ctypes.c_void_p, ctypes.c_size_t]
     library.ras_c_kind_name.restype = ctypes.c_size_t
     library.ras_c_kind_of_name.argtypes = [ctypes.c_void_p, ctypes.c_size_t]
@@ -257,6 +280,10 @@ def declare(library):
     library.ras_c_rewrite.restype = ctypes.c_uint32
     library.ras_c_tokens.argtypes = [ctypes.c_void_p, ctypes.c_size_t, ctypes.c_uint32, ctypes.c_void_p, ctypes.c_size_t, ctypes.c_void_p]
     library.ras_c_tokens.restype = ctypes.c_uint32
+    library.ras_c_take_tree.argtypes = [ctypes.c_void_p, ctypes.c_void_p]
+    library.ras_c_take_tree.restype = ctypes.c_uint32
+    library.ras_c_free_tree.argtypes = [ctypes.c_void_p]
+    library.ras_c_free_tree.restype = None
     library.ras_c_string_value.argtypes = [ctypes.c_void_p, ctypes.c_size_t, ctypes.c_void_p, ctypes.c_size_t, ctypes.c_void_p]
     library.ras_c_string_value.restype = ctypes.c_uint32
     library.ras_c_byte_string_value.argtypes = [ctypes.c_void_p, ctypes.c_size_t, ctypes.c_void_p, ctypes.c_size_t, ctypes.c_void_p]

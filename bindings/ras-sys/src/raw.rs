@@ -99,7 +99,7 @@ pub const TOO_LARGE: u32 = 10;
 pub const FAULT: u32 = 64;
 
 /// A number made of the kinds, constants, structs and calls of the library. Bindings that know another number were made for others.
-pub const VERSION: u32 = 1112105567;
+pub const VERSION: u32 = 1658320449;
 
 /// One node or token, in 16 bytes. Rows are numbered from 0 in preorder.
 #[repr(C)]
@@ -125,6 +125,16 @@ pub struct Handle {
     /// Whether there is a parse.
     pub full: bool,
     /// Where it is.
+    pub at: *mut u8,
+}
+
+/// The memory of a tree that was handed over, or none. Its fields are private to the library.
+#[repr(C)]
+#[derive(Debug)]
+pub struct TreeOwner {
+    /// Whether there is a tree.
+    pub full: bool,
+    /// Where its memory is.
     pub at: *mut u8,
 }
 
@@ -197,6 +207,27 @@ pub struct TokenRow {
     pub bytes: u32,
 }
 
+/// A tree in memory that the caller owns: its rows, those that `ras_c_rows` writes, and its text.
+/// All zeros is no tree.
+///
+/// Nothing changes the rows and the text, so any number of threads may read them, until
+/// `ras_c_free_tree` frees them. It may be called by any thread, once: not for a copy of the struct
+/// too. Only the library changes the fields.
+#[repr(C)]
+#[derive(Debug)]
+pub struct TreeRows {
+    /// The rows, in preorder. Where there is no tree it is null.
+    pub rows: *const FlatRow,
+    /// How many rows there are: at least one, and fewer than 2^32.
+    pub row_count: usize,
+    /// The bytes of the text, which is UTF-8. Nothing may be read there if it is empty.
+    pub text: *const u8,
+    /// How many bytes the text has: fewer than 2^32.
+    pub text_len: usize,
+    /// What owns the memory. It is private to the library.
+    pub owner: TreeOwner,
+}
+
 /// What a word is in an edition.
 #[repr(C)]
 #[derive(Clone, Copy, Debug, PartialEq, Eq)]
@@ -216,6 +247,21 @@ pub struct Word {
 }
 
 unsafe extern "C" {
+    /// Writes a choice of the errors of a handle's parse, such as [`PARSE_ERRORS`], and their messages,
+    /// as `ras_c_rows_as` does, without rows. The counts have no rows. The handle keeps its parse.
+    ///
+    /// Returns [`OK`], [`TOO_LONG`], [`NO_MEMORY`], [`NO_ROOM`], [`NO_CHOICE`], or [`NO_PARSE`] if the
+    /// handle holds no parse.
+    pub fn ras_c_errors(
+        handle: *mut Handle,
+        told: u32,
+        errors: *mut ErrorRow,
+        errors_len: usize,
+        messages: *mut u8,
+        messages_len: usize,
+        counts: *mut Counts,
+    ) -> u32;
+
     /// Writes the name of the kind with this number, for example `FN`, to the front of `name`, and
     /// returns the name's length in bytes: 0 if no kind has the number, or if the kind has no name. If
     /// `name` is shorter than that, it is not changed. 64 bytes are enough for all.
@@ -503,6 +549,23 @@ unsafe extern "C" {
         tokens_len: usize,
         count: *mut u32,
     ) -> u32;
+
+    /// Takes the tree of a handle's parse out of it, as rows and text that the caller owns from then
+    /// on, without a copy of them. The handle then holds no parse. A tree that `tree` held is freed.
+    ///
+    /// Returns [`OK`], [`TOO_LONG`] if the tree has 2^32 rows or more, [`NO_MEMORY`], or [`NO_PARSE`]
+    /// if the handle holds no parse. Unless it is [`OK`], `tree` is not changed; if it is
+    /// [`NO_MEMORY`], the parse of the handle is freed, and else the handle is not changed.
+    pub fn ras_c_take_tree(
+        handle: *mut Handle,
+        tree: *mut TreeRows,
+    ) -> u32;
+
+    /// Frees the rows and the text of a tree, if there is one. It then is none, all zeros, and may be
+    /// used again.
+    pub fn ras_c_free_tree(
+        tree: *mut TreeRows,
+    );
 
     /// Writes the value of a string with this text, quotes and prefix with it, to the front of `value`,
     /// and its length to `count`: of `"a\n"` the letter and a line feed.

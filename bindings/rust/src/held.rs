@@ -1,5 +1,6 @@
 //! A parse that stays with the library.
 use crate::range::TextRange;
+use crate::stored::Stored;
 use crate::tree::{Edition, Errors, ParseError, Room, SyntaxError, Tree, answered};
 use crate::violations::Violations;
 use ras_sys::{self as raw, Counts, FlatRow, Handle, Range};
@@ -79,6 +80,33 @@ impl Held {
             from = to;
         }
         Ok(Tree::built(text.into_string(), edition, rows, violations))
+    }
+
+    /// The tree of the parse, whose text and rows the library hands over.
+    pub(crate) fn into_tree(mut self, edition: Edition, errors: Errors) -> Result<Tree, ParseError> {
+        let (_, errors) = Tree::told_parts(Room::of(0), |room, counts| self.errors(errors, room, counts))?;
+        // SAFETY: the handle is this value's own, and the tree is one that holds nothing.
+        match Stored::handed(|tree| unsafe { raw::ras_c_take_tree(&mut self.0, tree) }) {
+            Ok(stored) => Ok(Tree::of(stored, edition, errors)),
+            Err(raw::TOO_LONG) => Err(ParseError::TooLong),
+            Err(_) => Err(ParseError::Memory),
+        }
+    }
+
+    // Writes the errors to the buffers, or counts them if there is too little room.
+    fn errors(&mut self, errors: Errors, room: &mut Room, counts: &mut Counts) -> u32 {
+        // SAFETY: both buffers are borrowed for the call, with their lengths, and do not overlap; the handle is this value's own.
+        unsafe {
+            raw::ras_c_errors(
+                &mut self.0,
+                errors.number(),
+                room.errors.as_mut_ptr(),
+                room.errors.capacity(),
+                room.messages.as_mut_ptr(),
+                room.messages.capacity(),
+                counts,
+            )
+        }
     }
 
     // Appends the rows behind those that are there, up to a number, for which there is room.

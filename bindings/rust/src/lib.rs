@@ -41,6 +41,7 @@ mod range;
 mod rules;
 mod smol_str;
 mod splice;
+mod stored;
 pub mod syntax_editor;
 mod syntax_text;
 mod text_edit;

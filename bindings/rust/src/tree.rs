@@ -4,6 +4,7 @@ use crate::iter::TokenAtOffset;
 use crate::node::{NodeRef, SyntaxNode, TokenRef};
 use crate::range::{TextRange, TextSize};
 use crate::splice::splice;
+use crate::stored::Stored;
 use crate::{SyntaxKind, iter};
 use ras_sys::{self as raw, Counts, ErrorRow, FlatRow, Range};
 use std::fmt;
@@ -210,9 +211,8 @@ pub struct Tree(Arc<Inner>);
 
 #[derive(PartialEq, Eq)]
 struct Inner {
-    text: Box<str>,
+    stored: Stored,
     edition: Edition,
-    rows: Box<[FlatRow]>,
     errors: Box<[SyntaxError]>,
 }
 
@@ -301,7 +301,7 @@ pub(crate) struct Room {
 impl Room {
     // For so many rows, and the errors of most texts.
     pub(crate) fn of(rows: usize) -> Room {
-        Room { rows: Vec::with_capacity(rows), errors: Vec::with_capacity(16), messages: Vec::with_capacity(1024) }
+        Room { rows: Vec::with_capacity(rows), errors: Vec::with_capacity(64), messages: Vec::with_capacity(4096) }
     }
 
     // For so many rows, and somewhat more than these errors.
@@ -352,12 +352,13 @@ fn errors_of(rows: &[ErrorRow], messages: &[u8], violations: usize) -> Box<[Synt
 impl Tree {
     /// The tree of a text, read as a file.
     ///
-    /// It takes time linear in the text: one pass of the parser, and one copy of the rows.
+    /// It takes time linear in the text: one pass of the parser, and a walk over the rows that looks for what breaks rules beyond the grammar.
+    /// The library hands over its own tree.
     ///
     /// # Panics
     ///
     /// It panics if the library that is linked is not the one that this crate was made for.
-    pub fn parse(text: impl Into<Box<str>>, edition: Edition) -> Result<Tree, ParseError> {
+    pub fn parse(text: impl AsRef<str>, edition: Edition) -> Result<Tree, ParseError> {
         Tree::parse_as(text, edition, Entry::SourceFile, Errors::All)
     }
 
@@ -376,7 +377,7 @@ impl Tree {
     /// # Panics
     ///
     /// It panics if the library that is linked is not the one that this crate was made for.
-    pub fn parse_expr(text: impl Into<Box<str>>, edition: Edition) -> Result<Tree, ParseError> {
+    pub fn parse_expr(text: impl AsRef<str>, edition: Edition) -> Result<Tree, ParseError> {
         Tree::parse_as(text, edition, Entry::Expr, Errors::All)
     }
 
@@ -397,12 +398,10 @@ impl Tree {
     /// # Panics
     ///
     /// It panics if the library that is linked is not the one that this crate was made for.
-    pub fn parse_as(text: impl Into<Box<str>>, edition: Edition, entry: Entry, errors: Errors) -> Result<Tree, ParseError> {
-        let text = text.into();
+    pub fn parse_as(text: impl AsRef<str>, edition: Edition, entry: Entry, errors: Errors) -> Result<Tree, ParseError> {
         match entry {
-            // The parse is asked for the number of its rows first, so that they get memory once.
-            Entry::SourceFile => Held::parse(&text, edition)?.tree(text, edition, errors),
-            _ => Tree::part(text, edition, entry, errors),
+            Entry::SourceFile => Held::parse(text.as_ref(), edition)?.into_tree(edition, errors),
+            _ => Tree::part(text.as_ref().into(), edition, entry, errors),
         }
     }
 
@@ -440,7 +439,12 @@ impl Tree {
         mut call: impl FnMut(&str, &mut Room, &mut Counts) -> u32,
     ) -> Result<Tree, ParseError> {
         let (rows, errors) = Tree::told_parts(room, |room, counts| call(&text, room, counts))?;
-        Ok(Tree(Arc::new(Inner { text, edition, rows: rows.into(), errors })))
+        Ok(Tree::of(Stored::new(text, rows.into()), edition, errors))
+    }
+
+    // The tree of what is stored.
+    pub(crate) fn of(stored: Stored, edition: Edition, errors: Box<[SyntaxError]>) -> Tree {
+        Tree(Arc::new(Inner { stored, edition, errors }))
     }
 
     // The rows and the errors from such a call.
@@ -471,16 +475,17 @@ impl Tree {
         let (edition, longer) = (self.edition(), (text.len() as u32).wrapping_sub(self.text().len() as u32));
         let count = self.rows().len() + new.len() - (self.end_of(row) - row) as usize;
         let mut rows = match Arc::try_unwrap(self.0) {
-            Ok(inner) => inner.rows.into_vec(),
+            Ok(inner) => inner.stored.into_rows(),
             Err(shared) => {
-                let mut rows = Vec::with_capacity(count.max(shared.rows.len()));
-                rows.extend_from_slice(&shared.rows);
+                let old = shared.stored.rows();
+                let mut rows = Vec::with_capacity(count.max(old.len()));
+                rows.extend_from_slice(old);
                 rows
             }
         };
         rows.reserve_exact(count.saturating_sub(rows.len()));
         splice(&mut rows, row, &new, longer);
-        Ok(Tree(Arc::new(Inner { text, edition, rows: rows.into(), errors })))
+        Ok(Tree::of(Stored::new(text, rows.into()), edition, errors))
     }
 
     // The same tree, of which there is no other share yet, with further errors behind those that it has.
@@ -497,12 +502,12 @@ impl Tree {
 
     // The same with errors.
     pub(crate) fn built(text: String, edition: Edition, rows: Vec<FlatRow>, errors: Vec<SyntaxError>) -> Tree {
-        Tree(Arc::new(Inner { text: text.into(), edition, rows: rows.into(), errors: errors.into() }))
+        Tree::of(Stored::new(text.into(), rows.into()), edition, errors.into())
     }
 
     // Whether both have the same text and the same rows.
     pub(crate) fn is_equal(&self, other: &Tree) -> bool {
-        self.is_same(other) || (self.0.text == other.0.text && self.0.rows == other.0.rows)
+        self.is_same(other) || self.0.stored == other.0.stored
     }
 
     /// The root, which borrows the tree: a `SOURCE_FILE`, unless the text was read by another [`Entry`] or the tree was made of a part of
@@ -518,7 +523,7 @@ impl Tree {
 
     /// The text, as it was given.
     pub fn text(&self) -> &str {
-        &self.0.text
+        self.0.stored.text()
     }
 
     /// The edition that the text was read as.
@@ -539,7 +544,7 @@ impl Tree {
 
     /// The rows of the tree, as plain numbers: one for each node and token, in preorder.
     pub fn rows(&self) -> &[FlatRow] {
-        &self.0.rows
+        self.0.stored.rows()
     }
 
     /// The needless pairs of parentheses, each a `PAREN_EXPR` or a `PAREN_PAT`, in preorder: those that
@@ -608,7 +613,7 @@ impl Eq for Tree {}
 // The steps from row to row.
 impl Tree {
     fn row(&self, row: u32) -> &FlatRow {
-        &self.0.rows[row as usize]
+        &self.rows()[row as usize]
     }
 
     pub(crate) fn end_of(&self, row: u32) -> u32 {
@@ -628,15 +633,15 @@ impl Tree {
     }
 
     pub(crate) fn range_of(&self, row: u32) -> TextRange {
-        let end = match self.0.rows.get(self.end_of(row) as usize) {
+        let end = match self.rows().get(self.end_of(row) as usize) {
             Some(behind) => behind.start,
-            None => self.0.text.len() as u32,
+            None => self.text().len() as u32,
         };
         TextRange::new(self.start_of(row), end.into())
     }
 
     pub(crate) fn text_of(&self, row: u32) -> &str {
-        &self.0.text[self.range_of(row)]
+        &self.text()[self.range_of(row)]
     }
 
     pub(crate) fn parent_of(&self, row: u32) -> Option<u32> {
@@ -677,7 +682,7 @@ impl Tree {
             subtree_end: it.subtree_end - row,
             parent: it.parent.saturating_sub(row),
         };
-        let rows = self.0.rows[row as usize..end as usize].iter().map(moved).collect();
+        let rows = self.rows()[row as usize..end as usize].iter().map(moved).collect();
         Tree::made(self.text_of(row).to_owned(), self.edition(), rows)
     }
 
@@ -696,7 +701,7 @@ impl Tree {
             return TokenAtOffset::None;
         }
         let (first, behind) = (row as usize, self.end_of(row) as usize);
-        let count = self.0.rows[first..behind].partition_point(|it| it.start <= offset.raw());
+        let count = self.rows()[first..behind].partition_point(|it| it.start <= offset.raw());
         let earlier = (row..row + count as u32).rev();
         let mut tokens = earlier.filter(|it| self.is_token(*it) && !self.range_of(*it).is_empty());
         match tokens.next() {

@@ -205,12 +205,17 @@ pub fn least_common_ancestor_element(u: SyntaxElement, v: SyntaxElement) -> Opti
     least_common_ancestor(&u.ancestors().next()?, &v.ancestors().next()?)
 }
 
+fn is_error(node: &SyntaxNode) -> bool
+    ensures { result ≡ is_error node.now }
+{
+    node.kind() == SyntaxKind::ERROR
+}
+
 /// Whether a child node is of kind `ERROR`. Only children are tested, not deeper descendants.
 pub fn has_errors(node: &SyntaxNode) -> bool
     ensures { result ≡ list_any is_error (filter at_node (children_of node.now)) }
 {
-    node.children()
-        .any(|child| child.kind() == SyntaxKind::ERROR)
+    node.children().any(|child| is_error(&child))
 }
 
 /// The nearest token before this node or token that is not trivia, or `None` if there is none or

@@ -10,3 +10,6 @@ pub mod Words
 pub mod Rewriting
 pub mod Violations
 pub mod Part
+pub mod Owned
+pub mod Handed
+pub mod Errors

@@ -1,6 +1,7 @@
 //! The parse that a handle keeps.
 ghost use Rattle.std.specs.Prelude.{◌≡◌, ◌⊎◌, ◌↔◌, ◌≤◌, ◌<◌, ◌^◌, length, IfOk, IfErr, OnErr, OnOk, IsTrue, string_bytes};
 ghost use Rattle.tree_model.specs.Tree.{text};
+ghost use Rattle.tree_model.specs.Edit.{root_of};
 ghost use Rattle.ras_front_end.specs.declared.parse_error.ParseError.TheVariants.{TooLong};
 ghost use Rattle.ras_parsing.specs.Edit.{IsEditOf, edited, replacing};
 ghost use Rattle.ras_c.specs.Kept.{IsRead, IsAgain, IsEdited};
@@ -9,7 +10,7 @@ ghost use Rattle.ras_c.specs.Live.{edit_from};
 use crate::root::Root;
 use crate::status::{NO_MEMORY, NO_PLACE, TOO_LONG};
 use document_laws::laws::rust_reads_exactly;
-use lossless_tree::{TextRange, TextSize};
+use lossless_tree::{SyntaxNode, TextRange, TextSize};
 use ras_front_end::{Edition, ParseError};
 use ras_parsing::{Document, Parse};
 use rust_front::Rust;
@@ -86,6 +87,13 @@ impl KeptParse {
         ensures read { IsRead (text self.now.parse.tree) self.now }
     {
         self.document.parse()
+    }
+
+    /// The root of the tree, without the errors.
+    pub(crate) fn into_root(self) -> SyntaxNode
+        ensures { result ≡ root_of self.parse.tree }
+    {
+        self.document.into_parse().into_root()
     }
 
     // Edits the text in its edition. Returns what was read again.

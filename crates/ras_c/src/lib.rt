@@ -6,13 +6,16 @@
 #![tactic(auto)]
 
 mod choice;
+mod errors;
 mod fill;
+mod flat;
 mod handle;
 mod held;
 mod kept;
 mod kinds;
 mod live;
 mod loose;
+mod owner;
 mod parens;
 mod parsed;
 mod part;
@@ -21,6 +24,7 @@ mod rewriting;
 mod root;
 mod status;
 mod tokens;
+mod tree;
 mod values;
 mod version;
 mod violations;

@@ -114,7 +114,8 @@ fn write_rows(node: &SyntaxNode, rows: &mut [FlatRow]) -> usize
     node.write_flat_rows(rows)
 }
 
-fn stored_count(parse: &Parse<Root>) -> usize
+/// How many errors a parse has without the violations.
+pub(crate) fn stored_count(parse: &Parse<Root>) -> usize
     ensures { result ≡ length parse.now.errors }
 {
     parse.stored().len()

@@ -1,5 +1,5 @@
 -- What a step along a path finds.
-use Rattle.std.proofs.Common.{◌≡◌, Bool, true, false, List, [], ◌∷◌, ◌∙◌, cond, refl, sym, ap}
+use Rattle.std.proofs.Common.{◌≡◌, Bool, true, false, List, [], ◌∷◌, ◌∙◌, cond, drop, refl, sym, ap}
 use Rattle.std.specs.Prelude.{Option, None, Some, option_map, ◌&&◌}
 use Rattle.std.specs.Option.{option_and_then}
 use Rattle.std.specs.Iterator.{YieldsFirst}
@@ -49,3 +49,17 @@ tree_up lists trees above mid rest top l o (Some t) is next some = here (lists (
     here : (b : Bool) → Some o ≡ cond b (Some t) None → top_tree_from lists trees o rest ≡ cond b (top_tree_from lists trees t rest) top
     here true e = ap (λ c. top_tree_from lists trees c rest) (same e)
     here false e = (let no : Some o ≡ None = e in cc)
+
+-- no step up: what is around the use tree is no list of one
+pub tree_stays : (lists trees : SyntaxKind → Bool) (above mid rest : List Cursor) (top l : Cursor) (t : Option Cursor) → above ≡ l ∷ mid → YieldsFirst (λ left. left) mid t rest → None ≡ option_and_then (λ t. cond (lists (kind_at l) && trees (kind_at t)) (Some t) None) t → top ≡ top_tree_from lists trees top above
+tree_stays lists trees above mid rest top l None is next none = sym (ap (top_tree_from lists trees top) (is ∙ ap (λ m. l ∷ m) next.0))
+tree_stays lists trees above mid rest top l (Some t) is next none = here (lists (kind_at l) && trees (kind_at t)) none ∙ sym (ap (top_tree_from lists trees top) (is ∙ ap (λ m. l ∷ m) next))
+  where
+    here : (b : Bool) → None ≡ cond b (Some t) None → top ≡ cond b (top_tree_from lists trees t rest) top
+    here true e = (let no : None ≡ Some t = e in cc)
+    here false e = refl
+
+-- what is left behind a first step
+pub behind_first : (all left : List Cursor) (o : Option Cursor) → YieldsFirst (λ l. l) all o left → left ≡ drop 1 all
+behind_first all left None e = e.1 ∙ sym (ap (drop 1) e.0)
+behind_first all left (Some c) e = sym (ap (drop 1) e)

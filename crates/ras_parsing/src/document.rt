@@ -106,6 +106,13 @@ impl<T: FileView, F: ExactFront + Drop> Document<T, F> {
         &self.parse
     }
 
+    /// The parse of the text, out of the document.
+    pub fn into_parse(self) -> Parse<T>
+        ensures { result ≡ self.parse }
+    {
+        self.parse
+    }
+
     /// The text.
     pub fn text(&self) -> &str
         ensures { result.now ≡ text self.now.parse.tree }

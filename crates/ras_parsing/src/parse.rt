@@ -115,6 +115,13 @@ impl<T> Parse<T> {
         &self.root
     }
 
+    /// The root of the tree, without the errors.
+    pub fn into_root(self) -> SyntaxNode
+        ensures { result ≡ root_of self.tree }
+    {
+        self.root
+    }
+
     /// The stored errors, in order: those of [`Parse::errors`] without the violations.
     pub fn stored(&self) -> &[SyntaxError]
         ensures errors { result.now ≡ self.now.errors }

@@ -1,8 +1,8 @@
 -- The places where two trees differ, one after the other.
-use Rattle.std.specs.Prelude.{◌≡◌, ℕ, zero, suc, ⊤, List, [], ◌∷◌, Option, Some, None, map, drop}
+use Rattle.std.specs.Prelude.{◌≡◌, ℕ, zero, suc, ⊤, List, [], ◌∷◌, Option, Some, None, Bool, true, false, map, drop}
 use Rattle.lossless_tree.specs.declared.cursor.preorder.WalkEvent.TheVariants.{Enter, Leave}
 use Rattle.rust_report.specs.declared.same.Difference.{Difference}
-use Rattle.rust_report.specs.Steps.{Event, step, IsFirstDifference}
+use Rattle.rust_report.specs.Steps.{Element, Event, step, IsFirstDifference}
 
 -- what follows the ends of n nodes and tokens that were entered before
 abbrev pub past : ℕ → List Event → List Event
@@ -10,6 +10,12 @@ past zero es = es
 past (suc n) [] = []
 past (suc n) (Enter x ∷ es) = past (suc (suc n)) es
 past (suc n) (Leave x ∷ es) = past n es
+
+-- the first of the events enters or leaves a node or token, and the others follow
+abbrev pub IsNextTurn : List Event → Option Bool → List Event → Type 0
+IsNextTurn old None new = (old ≡ []) × (new ≡ [])
+IsNextTurn old (Some true) new = (x : Element) × (old ≡ Enter x ∷ new)
+IsNextTurn old (Some false) new = (x : Element) × (old ≡ Leave x ∷ new)
 
 -- how many ends are passed after a difference: where both walks enter a node or token, its own;
 -- where only this one does, its own and its parent's, which the other walk leaves or has left

@@ -2,7 +2,7 @@
 ghost use Rattle.std.specs.Prelude.{◌≡◌, ◌↔◌, IsTrue, IsNone, IfSome, IfOk, OnOk, [], map};
 ghost use Rattle.tree_model.specs.Cursor.{walk_of};
 ghost use Rattle.rust_report.specs.Steps.{is_marked, is_pair, is_left_out, counts_element, counts, shown, step, steps_of, counted, IsNext, IsFirstDifference};
-ghost use Rattle.rust_report.specs.Differences.{past, levels, AreDifferences, DifferThen};
+ghost use Rattle.rust_report.specs.Differences.{IsNextTurn, past, levels, AreDifferences, DifferThen};
 
 use lossless_tree::{
     NodeOrToken, PreorderWithTokens, SyntaxElement, SyntaxKind, SyntaxNode, TextSize, WalkEvent,
@@ -200,6 +200,18 @@ fn levels(own: &Option<WalkEvent<SyntaxElement>>, other: &Option<WalkEvent<Synta
     }
 }
 
+// Whether the next event of a walk that is compared enters a node or token, or else leaves one.
+fn next_enters(walk: &mut PreorderWithTokens, trivia: Trivia, marks: &[bool]) -> Option<bool>
+    ensures { IsNextTurn (counted trivia marks.now walk.old) result
+        (counted trivia marks.now walk.new) }
+{
+    match next_counted(walk, trivia, marks) {
+        Some(WalkEvent::Enter(_)) => Some(true),
+        Some(WalkEvent::Leave(_)) => Some(false),
+        None => None,
+    }
+}
+
 // Skips the ends of this many nodes and tokens that were entered. No tree in memory has 2^64
 // levels, so it does not fail.
 fn skip(
@@ -213,12 +225,12 @@ fn skip(
 {
     let mut open = levels;
     while open > 0 {
-        match next_counted(walk, trivia, marks) {
-            Some(WalkEvent::Enter(_)) => match open.checked_add(1) {
+        match next_enters(walk, trivia, marks) {
+            Some(true) => match open.checked_add(1) {
                 Some(more) => open = more,
                 None => return Err(AllocError),
             },
-            Some(WalkEvent::Leave(_)) => open -= 1,
+            Some(false) => open -= 1,
             None => return Ok(()),
         }
     }

@@ -1,5 +1,5 @@
 //! Shared ownership of a value that never changes, with a clone that always succeeds.
-ghost use Rattle.std.specs.Prelude.{◌≡◌, IfOk, IfErr, ⊤};
+ghost use Rattle.std.specs.Prelude.{◌≡◌, IfOk, IfErr, IfSome, ⊤};
 ghost use Rattle.std.specs.Cmp.{on_equiv, on_per};
 ghost use Rattle.shared_pointer.specs.SharedOwnership.{shared_owns, shared_lends};
 
@@ -58,6 +58,29 @@ impl<T, A: Allocator> Shared<T, A> {
 // `T` must be `Drop`, as for `Box::leak`, since a value whose count is full is never dropped.
 impl<T: Drop, A: Allocator> Shared<T, A> {
     ghost use Rattle.shared_pointer.specs.SharedPlace.{place_of};
+
+    /// The value, if this is its last owner, whose block is then freed; otherwise `None`, as if
+    /// this owner were dropped. Like `Rc::into_inner`.
+    pub fn into_value(self) -> Option<T>
+        ensures { IfSome result (λ v. v ≡ self.value) }
+    {
+        let (value, block) = self.remove_owner()?;
+        drop(block.free());
+        Some(value)
+    }
+
+    /// The value, if this is its last owner, as [`Shared::into_value`] returns it, or else this
+    /// owner, which stays one. It always returns one of the two, but no clause says so.
+    pub fn value_or_owner(self) -> Option<Result<T, Shared<T, A>>>
+        ensures value { IfSome result (λ r. IfOk r (λ v. v ≡ self.value)) }
+        ensures owner { IfSome result (λ r. IfErr r (λ s. s.value ≡ self.value)) }
+    {
+        if self.is_last() {
+            Some(Ok(self.into_value()?))
+        } else {
+            Some(Err(self))
+        }
+    }
 
     /// Another owner of the value. It takes no memory, and always succeeds.
     pub fn share(&self) -> Shared<T, A>

@@ -12,7 +12,10 @@ use Rattle.tree_rows.specs.Rows.{row_at, parent_at, no_row, row_of}
 use Rattle.tree_rows.specs.Flat.{flat_kind, flat_forest, flat_rows, flat_row_at}
 use Rattle.tree_rows.specs.declared.shift.Shift.{Shift}
 use Rattle.tree_rows.specs.MovedRows.{shift_from, moved_number}
-use Rattle.tree_rows.proofs.Hung.{Hung, hung, hung_of}
+use Rattle.tree_rows.specs.Rows.{Columns, columns_of, parents_of, Represents}
+use Rattle.tree_rows.specs.Stored.{flat_columns}
+use Rattle.tree_rows.proofs.Hung.{Hung, hung, hung_of, columns, same_columns}
+use Rattle.tree_rows.proofs.Parents.{columns_of-hung}
 use Rattle.tree_rows.proofs.At.{length-hung_of, hung-At}
 use Rattle.tree_model.proofs.At.{cong₂, below_or_after, forest_size-cons}
 use Rattle.tree_model.proofs.EditLemmas.{within_rows}
@@ -197,3 +200,15 @@ filled_more {X} xs ys out k x d is short shorter is_x =
 pub filled_all : {X : Type 0} → (xs ys : List X) (out : List X) (k n : ℕ) → out ≡ take k xs ++ drop k ys → k ≡ n → n ≡ length xs → out ≡ xs ++ drop n ys
 filled_all xs ys out k n is is_k is_n =
     is ∙ ap (λ j. take j xs ++ drop j ys) is_k ∙ ap (λ j. take j xs ++ drop n ys) is_n ∙ ap (λ l. l ++ drop n ys) (take-length xs)
+
+-- ---- rows that are stored
+
+flat_columns-columns : (hs : List Hung) → flat_columns (columns hs) ≡ map flat hs
+flat_columns-columns [] = refl
+flat_columns-columns (h ∷ hs) = ap (λ l. flat h ∷ l) (flat_columns-columns hs)
+
+-- those of a table are the flat rows of its tree
+pub flat_shown : (kept : Columns) (s : List ℕ) (t : Tree) → Represents kept s t → flat_columns kept ≡ flat_rows t
+flat_shown kept s t w =
+    let all : kept ≡ columns_of (cons t nil) = same_columns kept (columns_of (cons t nil)) w.rows_are (w.parents_are ∙ ap parents_of w.rows_are) in
+    ap flat_columns (all ∙ columns_of-hung (cons t nil)) ∙ flat_columns-columns (hung_of (cons t nil) 0 0 0) ∙ sym (flat_forest-hung (cons t nil) 0 0 0)

@@ -1,7 +1,7 @@
 -- A list whose elements are changed one after another.
-use Rattle.std.proofs.Common.{◌≡◌, ℕ, zero, suc, ◌+◌, ◌-◌, ◌<◌, ◌≤◌, List, [], ◌∷◌, ◌++◌, length, map, get_or, take, drop, refl, ap, ◌∙◌, arith, append-nil, length-append}
+use Rattle.std.proofs.Common.{◌≡◌, ℕ, zero, suc, ◌+◌, ◌-◌, ◌<◌, ◌≤◌, List, [], ◌∷◌, ◌++◌, length, map, get_or, take, drop, refl, sym, ap, ◌∙◌, arith, append-nil, length-append}
 use Rattle.std.proofs.Math.ListN.{set}
-use Rattle.std.proofs.lemmas.List.{take_all, drop_all, length-drop, length-take}
+use Rattle.std.proofs.lemmas.List.{take_all, drop_all, length-drop, length-take, take-append-drop, get_or-drop, get_or-append_right, set-append_right}
 
 -- the list of which the first i are changed
 abbrev pub changed : {X : Type 0} → (X → X) → ℕ → List X → List X
@@ -58,3 +58,36 @@ append_changed f old new n is_n =
 
 pub length-rest_set : {X : Type 0} (xs ys : List X) (n : ℕ) → n ≤ length xs → length ys ≡ length xs - n → length (take n xs ++ (ys ++ drop (length xs - n) (drop n xs))) ≡ length xs
 length-rest_set xs ys n h is = omega (arith, ap length (rest_set xs ys n), length-append (take n xs) ys, length-take n xs)
+
+-- those from n to k are changed
+abbrev pub part_changed : {X : Type 0} → (X → X) → ℕ → ℕ → List X → List X
+part_changed f n k xs = take n xs ++ changed f (k - n) (drop n xs)
+
+pub part_none : {X : Type 0} (f : X → X) (xs : List X) (n : ℕ) → part_changed f n n xs ≡ xs
+part_none f xs n = let e : n - n ≡ 0 = omega arith in ap (λ i. take n xs ++ changed f i (drop n xs)) e ∙ take-append-drop n xs
+
+pub part_more : {X : Type 0} (f : X → X) (xs : List X) (n k : ℕ) (d : X) → n ≤ k → k < length xs → set (part_changed f n k xs) k (f (get_or xs k d)) ≡ part_changed f n (k + 1) xs
+part_more f xs n k d h lt =
+    let front = take n xs in
+    let rest = drop n xs in
+    let i = k - n in
+    let there : n + i ≡ k = omega (arith, h) in
+    let next : i + 1 ≡ (k + 1) - n = omega (arith, h) in
+    set-append_right front (changed f i rest) n k (f (get_or xs k d)) (omega (arith, length-take n xs, h, lt)) h
+    ∙ ap (λ x. front ++ set (changed f i rest) i (f x)) (ap (λ j. get_or xs j d) (sym there) ∙ sym (get_or-drop n xs i d))
+    ∙ ap (λ l. front ++ l) (changed_more f rest i d (omega (arith, length-drop n xs, h, lt))) ∙ ap (λ j. front ++ changed f j rest) next
+
+pub part_not_yet : {X : Type 0} (f : X → X) (xs : List X) (n k : ℕ) (d : X) → n ≤ k → k < length xs → get_or (part_changed f n k xs) k d ≡ get_or xs k d
+part_not_yet f xs n k d h lt =
+    let front = take n xs in
+    let rest = drop n xs in
+    let i = k - n in
+    let there : n + i ≡ k = omega (arith, h) in
+    get_or-append_right front (changed f i rest) n k d (omega (arith, length-take n xs, h, lt)) h
+    ∙ not_yet f rest i d (omega (arith, length-drop n xs, h, lt)) ∙ get_or-drop n xs i d ∙ ap (λ j. get_or xs j d) there
+
+pub length-part_changed : {X : Type 0} (f : X → X) (xs : List X) (n k : ℕ) → length (part_changed f n k xs) ≡ length xs
+length-part_changed f xs n k = omega (arith, length-append (take n xs) (changed f (k - n) (drop n xs)), length-changed f (drop n xs) (k - n), length-append (take n xs) (drop n xs), ap length (take-append-drop n xs))
+
+pub part_all : {X : Type 0} (f : X → X) (xs : List X) (n k : ℕ) → n ≤ k → length xs ≤ k → part_changed f n k xs ≡ take n xs ++ map f (drop n xs)
+part_all f xs n k h all = ap (λ l. take n xs ++ l) (all_changed f (drop n xs) (k - n) (omega (arith, length-drop n xs, all)))

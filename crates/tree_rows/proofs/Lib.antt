@@ -8,7 +8,7 @@ pub mod FinishLemmas
 pub mod Hung
 pub mod MovedColumns
 pub mod MovedRows
-pub mod PackedRow
+pub mod Stored
 pub mod Parents
 pub mod PointerLaws
 pub mod PointerLemmas

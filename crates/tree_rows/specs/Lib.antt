@@ -8,7 +8,7 @@ pub mod Run
 pub mod Making
 pub mod RowEquality
 pub mod RowEqualityLaws
-pub mod PackedRow
+pub mod Stored
 pub mod StartsMoved
 pub mod Flat
 pub mod KindSearch

@@ -6,7 +6,7 @@ use Rattle.tree_rows.specs.declared.builder_event.BuilderEvent.{BuilderEvent}
 use Rattle.tree_rows.specs.declared.builder_event.BuilderEvent.TheVariants.{Enter, Token, Exit}
 use Rattle.tree_rows.specs.Builder.{IsOneTree}
 use Rattle.tree_rows.specs.Rows.{Columns, no_row, no_rows, one_row, joined}
-use Rattle.tree_rows.specs.PackedRow.{columns_code}
+use Rattle.tree_rows.specs.Stored.{columns_code}
 
 -- the rows so far, the row of the innermost open node (0 where none is), and the bytes so far
 pub record Making : Type 0 where

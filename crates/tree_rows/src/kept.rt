@@ -3,11 +3,13 @@ ghost use Rattle.std.specs.Prelude.{◌≡◌, ◌<◌, ◌≤◌, ◌^◌, leng
 ghost use Rattle.std.specs.Cmp.Lexicographic.{pointwise};
 ghost use Rattle.tree_rows.specs.Rows.{no_row, joined};
 ghost use Rattle.tree_rows.specs.MovedRows.{cut_of};
+ghost use Rattle.tree_rows.specs.Stored.{flat_columns};
 ghost use Rattle.tree_rows.specs.StartsMoved.{starts_moved, StartsFit};
 ghost use Rattle.tree_rows.specs.RowEquality.{is_same_row};
 
 use crate::rows::{Row, Rows};
 use crate::shift::Shift;
+use crate::table::FlatRow;
 use shared_pointer::Shared;
 use std::alloc::{AllocError, Global};
 use std::marker::Model;
@@ -26,7 +28,7 @@ pub struct Kept {
 
 impl Model for Kept {
     ghost use Rattle.tree_rows.specs.Rows.{Columns};
-    ghost use Rattle.tree_rows.specs.PackedRow.{columns_code};
+    ghost use Rattle.tree_rows.specs.Stored.{columns_code};
     ghost use Rattle.tree_rows.specs.StartsMoved.{starts_moved, StartsFit};
 
     ghost Value = { Columns };
@@ -63,6 +65,7 @@ impl Kept {
     }
 
     /// Row `n`.
+    #[inline(always)]
     pub(crate) fn get(&self, n: usize) -> Row
         requires { n < length self.now.rows }
         ensures value { result ≡ get_or self.now.rows n no_row }
@@ -79,6 +82,39 @@ impl Kept {
             start: start as u32,
             end: row.end,
         }
+    }
+
+    /// The rows as they are stored, if no start is shifted and each number fits in 32 bits.
+    pub(crate) fn flat(&self) -> Option<&[FlatRow]>
+        ensures { IfSome result (λ rows. rows.now ≡ flat_columns self.now) }
+    {
+        if self.at < self.len() {
+            return None;
+        }
+        self.rows.as_ref().flat()
+    }
+
+    /// Whether [`Kept::into_flat`] has the rows to give.
+    pub(crate) fn is_own_and_flat(&self) -> bool {
+        self.rows.is_last() && self.flat().is_some()
+    }
+
+    /// The rows as they are stored, without a copy, if no other tree has them, no start is shifted
+    /// and each number fits in 32 bits.
+    pub(crate) fn into_flat(self) -> Option<Vec<FlatRow>>
+        ensures { IfSome result (λ rows. rows.items ≡ flat_columns self) }
+    {
+        if self.len() > self.at {
+            return None;
+        }
+        let Kept {
+            rows,
+            at: _,
+            from: _,
+            to: _,
+        } = self;
+        let rows = rows.into_value()?;
+        rows.into_flat()
     }
 
     /// The stored number of the parent of row `n`.
@@ -139,7 +175,7 @@ impl Kept {
                 from_byte: self.from,
                 to_byte: self.to,
             };
-            rows.move_from(rows.len() - behind, by);
+            rows.move_from(rows.len() - behind, by)?;
         }
         Ok(())
     }

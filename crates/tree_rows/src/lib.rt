@@ -18,4 +18,4 @@ pub use finish::{build_rows, first_refusal};
 pub use kept::Kept;
 pub use kind_set::KindSet;
 pub use row_builder::RowBuilder;
-pub use table::{FlatRow, Table, WalkStep};
+pub use table::{FlatRow, NotFlat, Table, WalkStep};

@@ -15,6 +15,9 @@ use std::alloc::{AllocError, Global};
 use std::marker::Model;
 use syntax_kind::SyntaxKind;
 
+// A vector has fewer elements than this.
+const NO_ROOM: usize = 1 << 63;
+
 /// The rows of a tree whose steps come in parts.
 ///
 /// A clause sees the rows so far, the row of the innermost open node, and how many bytes of the
@@ -69,31 +72,35 @@ impl RowBuilder {
         ensures { OnOk result
             (self.old.at + len < 2 ^ 32 → self.new ≡ after_step (Token kind len) self.old) }
     {
-        let row = self.rows.len();
+        let end = self.rows.len() + 1;
+        // No list has room for so many.
+        if end >= NO_ROOM {
+            return Err(AllocError);
+        }
         let token = Row {
             kind,
             is_token: true,
             start: self.at,
-            end: 0,
+            end,
         };
         self.rows.push(token, self.innermost)?;
-        let end = self.rows.len();
-        self.rows.set_end(row, end);
         self.at = self.at.wrapping_add((len % (1 << 32)) as u32);
         Ok(())
     }
 
     // No step of a tree leaves more nodes than were entered, so an exit always finds its node.
     #[inline(always)]
-    fn exit(&mut self)
-        ensures { self.new ≡ after_step Exit self.old }
+    fn exit(&mut self) -> Result<(), AllocError>
+        ensures { OnOk result (self.new ≡ after_step Exit self.old) }
     {
         let row = self.innermost;
         let end = self.rows.len();
         if row < end {
-            self.innermost = self.rows.parent(row);
-            self.rows.set_end(row, end);
+            let parent = self.rows.parent(row);
+            self.rows.set_end(row, end)?;
+            self.innermost = parent;
         }
+        Ok(())
     }
 
     /// Takes one more step, whose token, if it is one, ends before byte 2^32.
@@ -105,10 +112,7 @@ impl RowBuilder {
         match event {
             BuilderEvent::Enter(kind) => self.enter(kind),
             BuilderEvent::Token(kind, len) => self.token(kind, len),
-            BuilderEvent::Exit => {
-                self.exit();
-                Ok(())
-            }
+            BuilderEvent::Exit => self.exit(),
         }
     }
 

@@ -15,7 +15,7 @@ mod walk;
 
 use crate::kept::Kept;
 use crate::rows::Row;
-pub use flat::FlatRow;
+pub use flat::{FlatRow, NotFlat};
 use std::marker::Model;
 use syntax_kind::SyntaxKind;
 use text_size::{TextRange, TextSize};
@@ -71,6 +71,7 @@ impl Table {
     }
 
     // Row `n`.
+    #[inline(always)]
     fn row(&self, n: usize) -> Row
         requires { n < size self.now }
         ensures value { result ≡ row_at self.now n }

@@ -45,9 +45,9 @@ impl<T, A: Allocator> Shared<T, A> {
         Shared { ptr }
     }
 
-    /// Whether this is the only owner. It has no contract: its caller is right for either result,
+    /// Whether this is the only owner. It has no contract: its callers are right for either result,
     /// and only faster for the right one.
-    pub(super) fn is_last(&self) -> bool {
+    pub fn is_last(&self) -> bool {
         let ptr = self.ptr.cast_mut();
         unsafe {
             let count = (*ptr).count;

@@ -35,8 +35,7 @@ impl Table {
     {
         let count = rows.len();
         self.rows.copy_to(rows, first, end)?;
-        rows.move_from(count, by);
-        Ok(())
+        rows.move_from(count, by)
     }
 
     // The rows of the node at row `n` after `rows`, moved so that the node has the row `to`, starts

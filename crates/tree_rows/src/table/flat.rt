@@ -1,11 +1,13 @@
 //! Rows as plain numbers, for readers beyond Rattle.
-ghost use Rattle.std.specs.Prelude.{◌≡◌, ◌+◌, ◌-◌, ◌<◌, ◌≤◌, ◌^◌, ◌++◌, ◌⊎◌, take, drop, length};
-ghost use Rattle.tree_model.specs.Tree.{size, IsNode};
+ghost use Rattle.std.specs.Prelude.{◌≡◌, ◌↔◌, ◌+◌, ◌-◌, ◌<◌, ◌≤◌, ◌^◌, ◌++◌, ◌⊎◌, take, drop, length, string_bytes, IfOk, IfErr, IfSome, OnOk};
+ghost use Rattle.tree_model.specs.Tree.{size, text, IsNode};
 ghost use Rattle.tree_model.specs.Rows.{tree_at};
-ghost use Rattle.tree_rows.specs.Flat.{flat_kind, flat_rows, flat_row_at};
+ghost use Rattle.tree_rows.specs.Flat.{flat_rows, flat_row_at};
+ghost use Rattle.tree_rows.specs.declared.table.flat.NotFlat.TheVariants.{TooMany};
 
 use super::Table;
-use syntax_kind::SyntaxKind;
+use crate::rows::kind_number;
+use std::alloc::{AllocError, Global};
 
 /// One node or token, in 16 bytes. Rows are numbered from 0 in preorder.
 #[repr(C)]
@@ -21,14 +23,13 @@ pub struct FlatRow {
     pub parent: u32,
 }
 
-// What is added to the number of a token's kind.
-const TOKEN: u32 = 2_147_483_648;
-
-fn kind_number(kind: SyntaxKind, is_token: bool) -> u32
-    ensures { result ≡ flat_kind kind is_token }
-{
-    let number = kind.to_raw();
-    if is_token { number + TOKEN } else { number }
+/// Why a tree is not handed over as plain numbers.
+#[derive(Clone, Copy)]
+pub enum NotFlat {
+    /// The tree has 2^32 nodes and tokens or more.
+    TooMany,
+    /// Out of memory.
+    Memory,
 }
 
 impl Table {
@@ -77,8 +78,71 @@ impl Table {
     {
         // For the proof: the number of rows fits.
         let _rows = self.len();
+        if let Some(rows) = self.rows.flat() {
+            out.copy_from_slice(&rows[from..from + out.len()]);
+            return;
+        }
         for k in 0..out.len() {
             out[k] = self.whole_row(from + k);
+        }
+    }
+
+    // The rows of the whole tree in a new list.
+    fn copied_rows(&self, alloc: Global) -> Result<Vec<FlatRow>, AllocError>
+        requires is_node { IsNode self.now }
+        requires few { size self.now < 2 ^ 32 }
+        ensures { IfOk result (λ v. v.items ≡ flat_rows self.now) }
+    {
+        let blank = FlatRow {
+            kind: 0,
+            start: 0,
+            subtree_end: 0,
+            parent: 0,
+        };
+        let mut rows = Vec::from_elem(alloc, blank, self.len())?;
+        self.fill_flat_rows(0, &mut rows);
+        Ok(rows)
+    }
+
+    // The text and the rows as they are stored.
+    fn own_rows(self) -> Option<(String, Vec<FlatRow>)>
+        requires { IsNode self }
+        ensures text { IfSome result (λ p. string_bytes p.0 ≡ text self) }
+        ensures rows { IfSome result (λ p. p.1.items ≡ flat_rows self) }
+    {
+        let Table { text, rows } = self;
+        let rows = rows.into_flat()?;
+        Some((text, rows))
+    }
+
+    // The text and a copy of the rows.
+    fn with_copied_rows(self, alloc: Global) -> Result<(String, Vec<FlatRow>), AllocError>
+        requires is_node { IsNode self }
+        requires few { size self < 2 ^ 32 }
+        ensures text { IfOk result (λ p. string_bytes p.0 ≡ text self) }
+        ensures rows { IfOk result (λ p. p.1.items ≡ flat_rows self) }
+    {
+        let rows = self.copied_rows(alloc)?;
+        let Table { text, rows: _ } = self;
+        Ok((text, rows))
+    }
+
+    /// The text and the rows of the whole tree, which the caller owns from then on. Rows that no
+    /// other tree has are not copied, unless an edit has shifted their starts.
+    pub fn into_flat_rows(self, alloc: Global) -> Result<(String, Vec<FlatRow>), NotFlat>
+        requires is_node { IsNode self }
+        ensures text { IfOk result (λ p. string_bytes p.0 ≡ text self) }
+        ensures rows { IfOk result (λ p. p.1.items ≡ flat_rows self) }
+        ensures refused { IfErr result (λ e. (e ≡ TooMany) ↔ (2 ^ 32 ≤ size self)) }
+        ensures fits { OnOk result (size self < 2 ^ 32) }
+    {
+        if self.len() > u32::MAX as usize {
+            return Err(NotFlat::TooMany);
+        }
+        if self.rows.is_own_and_flat() {
+            self.own_rows().ok_or(NotFlat::Memory)
+        } else {
+            self.with_copied_rows(alloc).map_err(|_| NotFlat::Memory)
         }
     }
 

@@ -21,14 +21,14 @@ move_from-requires-clause-rows_fit c = λ k later there ends.
     (c.in_ok-extend_from.ensures.ok ∙ ap (λ k. joined c.args.rows.now (cut_of c.args.first c.args.end k)) c.as_ref.ensures)
     (start (goal.at.move_from-requires-clause-rows_fit c).After-len) later there c.self.invariant ends
 
-pub returns-then-self-end : goal.returns-then-self-end
-returns-then-self-end c =
+pub returns-in_ok-move_from : goal.returns-in_ok-move_from
+returns-in_ok-move_from c =
     let a = c.self.inside in
     copied a.at a.from a.to c.args.first c.args.end _ a.rows.value c.args.rows.now c.extend_from.new.self c.move_from.new.self c.requires.ordered
-    (fits (goal.at.returns-then-self-end c).In_ok-extend_from) c.if-self-end.true
+    (fits (goal.at.returns-in_ok-move_from c).In_ok-extend_from) c.if-self-end.true
     (omega (arith, c.len-count.ensures.value, c.len-count.ensures.parents))
     (c.in_ok-extend_from.ensures.ok ∙ ap (λ k. joined c.args.rows.now (cut_of c.args.first c.args.end k)) c.as_ref.ensures)
-    (start (goal.at.returns-then-self-end c).After-len) c.move_from.ensures
+    (start (goal.at.returns-in_ok-move_from c).After-len) c.in_ok-move_from.ensures
     ∙ ap (λ k. joined c.args.rows.now (cut_of c.args.first c.args.end k)) c.self.view_is
 
 pub returns-else-self-end : goal.returns-else-self-end

@@ -1,57 +1,69 @@
-use Rattle.std.proofs.Common.{◌≡◌, ◌≤◌, ◌+◌, ◌∙◌, ◌++◌, ◌-◌, ap, sym, subst, map, length, take, drop, get_or, arith}
-use Rattle.std.proofs.lemmas.List.{length-map, get_or-drop, with_items_is}
-use Rattle.tree_rows.specs.PackedRow.{unpacked}
+use Rattle.std.proofs.Common.{◌≡◌, ◌<◌, ◌∙◌, ap, sym, subst, arith, length, get_or}
+use Rattle.std.proofs.Math.ListN.{set}
+use Rattle.tree_rows.specs.Rows.{no_row}
 use Rattle.tree_rows.specs.MovedRows.{moved_row, moved_number, MoveFits, NumberFits}
-use Rattle.tree_model.proofs.At.{cong₂}
 use Rattle.tree_rows.proofs.Hung.{same_columns}
-use Rattle.tree_rows.proofs.InPlace.{whole_rest, rest_set, length-rest, length-rest_set}
-use Rattle.tree_rows.proofs.PackedRow.{rest_changed, rest_read}
+use Rattle.tree_rows.proofs.InPlace.{part_none, part_more, part_not_yet, part_all, length-part_changed}
+use Rattle.tree_model.proofs.At.{cong₂}
 use Rattle.tree_rows.proofs.rows.Rows.move_from.Goals as goal
+use Rattle.tree_rows.proofs.rows.Rows.move_from.Goals.{After-move_row-arg-1}
 
-pub rows-requires : goal.rows-requires
-rows-requires c = λ k lt fits.
-    let ps = c.deref_mut.result.now in
-    let n = c.args.n in
-    let is : map unpacked ps ≡ c.args.self.now.rows = ap (map unpacked) c.deref_mut.ensures.value ∙ ap (λ k. k.rows) c.self.view_is in
-    let read = rest_read ps c.args.self.now.rows n k is in
-    subst (MoveFits c.args.by) (sym read)
-    (c.requires.rows_fit (n + k) (omega arith) (omega (arith, lt, length-rest ps n, length-map ps unpacked, ap length is)) (omega (arith, fits, ap (λ r. r.end) read)))
+pub loop-k-init : goal.loop-k-init
+loop-k-init c = record {
+  rows_moved = sym (part_none (moved_row c.args.by) c.args.self.now.rows c.args.n);
+  parents_moved = sym (part_none (moved_number c.args.by) c.args.self.now.parents c.args.n);
+}
 
-pub numbers-requires : goal.numbers-requires
-numbers-requires c = λ k lt fits.
-    let a = c.self.inside in
-    let xs = c.deref_mut-2.result.now in
-    let all = c.args.self.now.parents in
+pub loop-k-preserved : goal.loop-k-preserved
+loop-k-preserved c =
+    let by = c.args.by in
+    let now = c.args.self.now in
     let n = c.args.n in
-    let is : xs ≡ all = c.deref_mut-2.ensures.value ∙ ap (λ k. k.parents) c.self.view_is in
-    let read : get_or (take (length xs - n) (drop n xs)) k 0 ≡ get_or all (n + k) 0 =
-    ap (λ l. get_or l k 0) (whole_rest xs n) ∙ get_or-drop n xs k 0 ∙ ap (λ l. get_or l (n + k) 0) is in
-    subst (NumberFits c.args.by) (sym read)
-    (c.requires.parents_fit (n + k) (omega arith)
-    (omega (arith, lt, length-rest xs n, ap length is, c.self.invariant, length-map a.packed.items unpacked, ap (λ k. length k.rows) c.self.view_is, ap (λ k. length k.parents) c.self.view_is))
-    (omega (arith, fits, read)))
+    let k = c.loop-k.k in
+    let row_there : k < length now.rows = omega (arith, c.loop-k-test.true, c.len-count.ensures.value) in
+    let parent_there : k < length now.parents = omega (arith, c.loop-k-test.true, c.len-count.ensures.parents) in
+    let row : get_or c.loop-k.self.rows k no_row ≡ get_or now.rows k no_row =
+    ap (λ l. get_or l k no_row) c.loop-k.invariant.rows_moved ∙ part_not_yet (moved_row by) now.rows n k no_row c.loop-k.auto.k row_there in
+    let parent : get_or c.loop-k.self.parents k 0 ≡ get_or now.parents k 0 =
+    ap (λ l. get_or l k 0) c.loop-k.invariant.parents_moved ∙ part_not_yet (moved_number by) now.parents n k 0 c.loop-k.auto.k parent_there in
+    record {
+      rows_moved = ap (λ x. x.rows) c.in_ok-move_row.ensures ∙ cong₂ (λ l x. set l k (moved_row by x)) c.loop-k.invariant.rows_moved row
+          ∙ part_more (moved_row by) now.rows n k no_row c.loop-k.auto.k row_there;
+      parents_moved = ap (λ x. x.parents) c.in_ok-move_row.ensures ∙ cong₂ (λ l x. set l k (moved_number by x)) c.loop-k.invariant.parents_moved parent
+          ∙ part_more (moved_number by) now.parents n k 0 c.loop-k.auto.k parent_there;
+    }
+
+pub move_row-requires-clause-is_row : goal.move_row-requires-clause-is_row
+move_row-requires-clause-is_row c =
+    omega (arith, c.loop-k-test.true, c.len-count.ensures.value, ap length c.loop-k.invariant.rows_moved, length-part_changed (moved_row c.args.by) c.args.self.now.rows c.args.n c.loop-k.k)
+
+pub move_row-requires-clause-row_fits : goal.move_row-requires-clause-row_fits
+move_row-requires-clause-row_fits c = λ small.
+    let by = c.args.by in
+    let now = c.args.self.now in
+    let k = c.loop-k.k in
+    let there : k < length now.rows = omega (arith, c.loop-k-test.true, c.len-count.ensures.value) in
+    let row : get_or c.loop-k.self.rows k no_row ≡ get_or now.rows k no_row =
+    ap (λ l. get_or l k no_row) c.loop-k.invariant.rows_moved ∙ part_not_yet (moved_row by) now.rows c.args.n k no_row c.loop-k.auto.k there in
+    subst (MoveFits by) (sym row) (c.requires.rows_fit k c.loop-k.auto.k there (omega (arith, small, ap (λ r. r.end) row)))
+
+pub move_row-requires-clause-parent_fits : goal.move_row-requires-clause-parent_fits
+move_row-requires-clause-parent_fits c = λ small.
+    let by = c.args.by in
+    let now = c.args.self.now in
+    let k = c.loop-k.k in
+    let there : k < length now.rows = omega (arith, c.loop-k-test.true, c.len-count.ensures.value) in
+    let parent : get_or c.loop-k.self.parents k 0 ≡ get_or now.parents k 0 =
+    ap (λ l. get_or l k 0) c.loop-k.invariant.parents_moved
+    ∙ part_not_yet (moved_number by) now.parents c.args.n k 0 c.loop-k.auto.k (omega (arith, c.loop-k-test.true, c.len-count.ensures.parents)) in
+    subst (NumberFits by) (sym parent) (c.requires.parents_fit k c.loop-k.auto.k there (omega (arith, small, parent)))
 
 pub returns : goal.returns
 returns c =
-    let a = c.self.inside in
-    let ps = c.deref_mut.result.now in
-    let xs = c.deref_mut-2.result.now in
-    let qs = c.rows.new.rows in
-    let ys = c.numbers.new.numbers in
-    let all = c.args.self.now in
+    let now = c.args.self.now in
     let n = c.args.n in
-    let f = moved_number c.args.by in
-    let is_ps : map unpacked ps ≡ all.rows = ap (map unpacked) c.deref_mut.ensures.value ∙ ap (λ k. k.rows) c.self.view_is in
-    let is_xs : xs ≡ all.parents = c.deref_mut-2.ensures.value ∙ ap (λ k. k.parents) c.self.view_is in
-    let few : n ≤ length ps = omega (arith, c.requires.is_row, ap length is_ps, length-map ps unpacked) in
-    let beside : length xs ≡ length ps = omega (arith, ap length c.deref_mut.ensures.value, ap length c.deref_mut-2.ensures.value, c.self.invariant) in
-    let part = take (length ps - n) (drop n ps) in
-    let long_rows : length qs ≡ length ps - n =
-    omega (arith, ap length c.rows.ensures, length-map qs unpacked, length-map part unpacked, length-map (map unpacked part) (moved_row c.args.by), length-rest ps n) in
-    let long_numbers : length ys ≡ length xs - n =
-    omega (arith, ap length c.numbers.ensures, length-map (take (length xs - n) (drop n xs)) f, length-rest xs n) in
+    let by = c.args.by in
+    let k = c.loop-k.k in
     same_columns _ _
-    (ap (map unpacked) (with_items_is a.packed _ (omega (arith, length-rest_set ps qs n few long_rows, ap length c.deref_mut.ensures.value, a.packed.ok.0)))
-    ∙ rest_changed ps qs all.rows n (moved_row c.args.by) is_ps c.rows.ensures)
-    (with_items_is a.parents _ (omega (arith, length-rest_set xs ys n (omega (arith, few, beside)) long_numbers, ap length c.deref_mut-2.ensures.value, a.parents.ok.0))
-    ∙ rest_set xs ys n ∙ cong₂ ◌++◌ (ap (take n) is_xs) (c.numbers.ensures ∙ ap (map f) (whole_rest xs n) ∙ ap (λ l. map f (drop n l)) is_xs))
+    (c.loop-k.invariant.rows_moved ∙ part_all (moved_row by) now.rows n k c.loop-k.auto.k (omega (arith, c.loop-k-test.false, c.len-count.ensures.value)))
+    (c.loop-k.invariant.parents_moved ∙ part_all (moved_number by) now.parents n k c.loop-k.auto.k (omega (arith, c.loop-k-test.false, c.len-count.ensures.parents)))

@@ -28,5 +28,5 @@ overflow_cast-result-2 c =
 pub returns : goal.returns
 returns c =
     flat_made c.args.self.now c.args.root c.args.n c.row-row.result c.row-start.result c.kind_number.result c.parent.result c.saturating_sub-parent.result
-    c.row-row.ensures.value c.row-start.ensures.value c.kind_number.ensures c.saturating_sub-parent.ensures c.parent.ensures
+    c.row-row.ensures.value c.row-start.ensures.value c.kind_number.ensures.number c.saturating_sub-parent.ensures c.parent.ensures
     ∙ flat_row-seen c.args.self.now c.args.root c.args.n c.requires.is_root c.requires.is_node c.requires.behind c.requires.inside

@@ -7,6 +7,7 @@ use Rattle.tree_rows.specs.MovedRows.{cut_of, rows_between, MoveFits}
 use Rattle.tree_rows.proofs.StepLemmas.{end_of_row}
 use Rattle.tree_rows.proofs.TableLemmas.{shown, rows_len, kept_are}
 use Rattle.tree_rows.proofs.EditLemmas.{all_moved, Copied, copied_at, parent_is_earlier}
+use Rattle.tree_rows.proofs.Stored.{ok_then}
 use Rattle.tree_rows.proofs.table.Table.push_moved.Goals as goal
 use Rattle.tree_rows.proofs.table.Table.push_moved.Goals.{In_ok-copy_to}
 
@@ -37,5 +38,7 @@ move_from-requires-clause-parents_fit c = λ k behind lt small.
 
 pub returns : goal.returns
 returns c =
-    all_moved c.args.by c.args.rows.now c.copy_to.new.rows c.move_from.new.self (rows_between c.args.self.now c.args.first c.args.end) c.len-count.result
-    (omega (arith, c.len-count.ensures.value, c.len-count.ensures.parents)) c.len-count.ensures.value (copies (goal.at.returns c).In_ok-copy_to) c.move_from.ensures
+    ok_then c.move_from.result
+    (all_moved c.args.by c.args.rows.now c.copy_to.new.rows c.move_from.new.self (rows_between c.args.self.now c.args.first c.args.end) c.len-count.result
+    (omega (arith, c.len-count.ensures.value, c.len-count.ensures.parents)) c.len-count.ensures.value (copies (goal.at.returns c).In_ok-copy_to))
+    c.move_from.ensures

@@ -11,4 +11,4 @@ overflow_cast-result-2 c = omega (arith, whole_parent c.args.self.now c.args.n c
 pub returns : goal.returns
 returns c =
     whole_row-seen c.args.self.now c.args.n c.row-row.result c.kind_number.result c.parent.result c.requires.is_row c.requires.is_node
-    c.row-row.ensures.value c.kind_number.ensures c.parent.ensures
+    c.row-row.ensures.value c.kind_number.ensures.number c.parent.ensures
