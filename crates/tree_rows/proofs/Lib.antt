@@ -14,7 +14,6 @@ pub mod PointerLaws
 pub mod PointerLemmas
 pub mod RowLemmas
 pub mod Run
-pub mod Making
 pub mod ScanLemmas
 pub mod Starts
 pub mod TokenLaws

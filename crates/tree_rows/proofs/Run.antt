@@ -7,11 +7,11 @@ use Rattle.std.proofs.Math.Seq.{set-append_seam, get_or-append_seam, map-set_sam
 use Rattle.std.proofs.lemmas.Bool.Decides.{nat_tests}
 use Rattle.std.proofs.lemmas.List.{map-append, map-set, length-map}
 use Rattle.tree_rows.specs.declared.builder_event.BuilderEvent.{BuilderEvent}
-use Rattle.tree_rows.specs.declared.builder_event.BuilderEvent.TheVariants.{Enter, Token, Exit}
+use Rattle.tree_rows.specs.declared.builder_event.BuilderEvent.TheVariants.{Exit}
 use Rattle.tree_model.specs.Tree.{node, token, Forest, nil, cons, forest_text, forest_size}
 use Rattle.tree_model.specs.Events.{exit, events_of}
 use Rattle.tree_rows.specs.Builder.{step_of}
-use Rattle.tree_rows.specs.Rows.{Columns, no_row, no_rows, one_row, joined, columns_of}
+use Rattle.tree_rows.specs.Rows.{no_row, one_row, joined, columns_of}
 use Rattle.tree_rows.specs.Making.{Making, making, after_step, run, nothing_made}
 use Rattle.tree_model.proofs.At.{cong₂}
 use Rattle.tree_rows.proofs.Hung.{Hung, hung_of, columns, row_in, up_in, columns-append}

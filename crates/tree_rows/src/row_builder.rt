@@ -1,5 +1,5 @@
 //! Rows that are made as the steps of a tree come.
-ghost use Rattle.std.specs.Prelude.{◌≡◌, ◌<◌, ◌+◌, ◌^◌, List, [], ◌∷◌, filter_map, length, IfOk, OnOk};
+ghost use Rattle.std.specs.Prelude.{◌≡◌, ◌<◌, ◌+◌, ◌^◌, List, [], ◌∷◌, None, filter_map, length, IfOk, IfSome, OnOk};
 ghost use Rattle.tree_model.specs.Events.{BuildsNode};
 ghost use Rattle.tree_rows.specs.declared.builder_event.BuilderEvent.{BuilderEvent};
 ghost use Rattle.tree_rows.specs.declared.builder_event.BuilderEvent.TheVariants.{Enter, Token, Exit};
@@ -51,40 +51,34 @@ impl RowBuilder {
         })
     }
 
+    // A node if there is no length, and else a token. `add` calls it once, so that the compiler
+    // puts `push` into it.
     #[inline(always)]
-    fn enter(&mut self, kind: SyntaxKind) -> Result<(), AllocError>
-        ensures { OnOk result (self.new ≡ after_step (Enter kind) self.old) }
+    fn start(&mut self, kind: SyntaxKind, len: Option<usize>) -> Result<(), AllocError>
+        ensures node { len ≡ None → OnOk result (self.new ≡ after_step (Enter kind) self.old) }
+        ensures token { IfSome len (λ n. OnOk result
+            (self.old.at + n < 2 ^ 32 → self.new ≡ after_step (Token kind n) self.old)) }
     {
         let row = self.rows.len();
-        let open = Row {
-            kind,
-            is_token: false,
-            start: self.at,
-            end: 0,
+        let end = match len {
+            None => 0,
+            Some(_) => row + 1,
         };
-        self.rows.push(open, self.innermost)?;
-        self.innermost = row;
-        Ok(())
-    }
-
-    #[inline(always)]
-    fn token(&mut self, kind: SyntaxKind, len: usize) -> Result<(), AllocError>
-        ensures { OnOk result
-            (self.old.at + len < 2 ^ 32 → self.new ≡ after_step (Token kind len) self.old) }
-    {
-        let end = self.rows.len() + 1;
         // No list has room for so many.
         if end >= NO_ROOM {
             return Err(AllocError);
         }
-        let token = Row {
+        let added = Row {
             kind,
-            is_token: true,
+            is_token: len.is_some(),
             start: self.at,
             end,
         };
-        self.rows.push(token, self.innermost)?;
-        self.at = self.at.wrapping_add((len % (1 << 32)) as u32);
+        self.rows.push(added, self.innermost)?;
+        match len {
+            None => self.innermost = row,
+            Some(len) => self.at = self.at.wrapping_add((len % (1 << 32)) as u32),
+        }
         Ok(())
     }
 
@@ -109,11 +103,12 @@ impl RowBuilder {
         ensures { OnOk result (self.old.at + text_len (event ∷ []) < 2 ^ 32
             → self.new ≡ after_step event self.old) }
     {
-        match event {
-            BuilderEvent::Enter(kind) => self.enter(kind),
-            BuilderEvent::Token(kind, len) => self.token(kind, len),
-            BuilderEvent::Exit => self.exit(),
-        }
+        let (kind, len) = match event {
+            BuilderEvent::Enter(kind) => (kind, None),
+            BuilderEvent::Token(kind, len) => (kind, Some(len)),
+            BuilderEvent::Exit => return self.exit(),
+        };
+        self.start(kind, len)
     }
 
     /// Takes further steps, whose tokens have fewer than 2^32 bytes with those before.

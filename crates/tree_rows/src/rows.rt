@@ -243,7 +243,20 @@ impl Rows {
             self.flat.push(flat_row(row, parent))?;
             return Ok(());
         }
-        self.push_wide(row, parent)
+        // A row of its own, so that only this way has one in memory.
+        let Row {
+            kind,
+            is_token,
+            start,
+            end,
+        } = row;
+        let wide = Row {
+            kind,
+            is_token,
+            start,
+            end,
+        };
+        self.push_wide(wide, parent)
     }
 
     // The same for a list with high halves, or that gets them now.
@@ -280,7 +293,20 @@ impl Rows {
             self.flat[n] = flat;
             return Ok(());
         }
-        self.put_wide(n, flat, high)
+        // A row of its own, as in `push`.
+        let FlatRow {
+            kind,
+            start,
+            subtree_end,
+            parent,
+        } = flat;
+        let wide = FlatRow {
+            kind,
+            start,
+            subtree_end,
+            parent,
+        };
+        self.put_wide(n, wide, high)
     }
 
     #[cold]

@@ -1,4 +1,4 @@
-use Rattle.std.proofs.Common.{ap, sym, subst, ◌∙◌, string_bytes}
+use Rattle.std.proofs.Common.{sym, subst, ◌∙◌, string_bytes}
 use Rattle.tree_model.specs.Events.{BuildsNode}
 use Rattle.tree_rows.specs.Builder.{events_from}
 use Rattle.tree_rows.proofs.Run.{made_rows}
