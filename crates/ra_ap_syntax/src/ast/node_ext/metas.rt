@@ -73,7 +73,7 @@ impl Meta {
     pub fn as_simple_path(&self) -> Option<ast::Path>
         ensures { IsPath (simple_path path_kinds (meta_node self.now)) result }
     {
-        if self.syntax().kind() != SyntaxKind::PATH_META {
+        if !support::is_of_kind(self.syntax(), SyntaxKind::PATH_META) {
             return None;
         }
         support::child(self.syntax())
@@ -96,7 +96,7 @@ impl Meta {
         ensures { IfOk result (λ call. option_map (λ p. (string_bytes p.0, p.1.syntax)) call
             ≡ meta_call (meta_node self.now)) }
     {
-        if self.syntax().kind() != SyntaxKind::TOKEN_TREE_META {
+        if !support::is_of_kind(self.syntax(), SyntaxKind::TOKEN_TREE_META) {
             return Ok(None);
         }
         let Some(tree) = first_tree(self.syntax()) else {

@@ -23,7 +23,7 @@ impl ast::OrPat {
         ensures { result ≡ leading_pipe self.now.syntax }
     {
         let token = self.syntax.first_child_no_trivia()?.into_token()?;
-        if token.kind() == SyntaxKind::PIPE {
+        if support::is_token_of_kind(&token, SyntaxKind::PIPE) {
             Some(token)
         } else {
             None
@@ -89,7 +89,7 @@ fn bound_in_box<N: AstNode + Drop>(boxed: &SyntaxNode) -> Option<ast::Name>
     ensures { IsName (bound_in_box name_kinds N.casts boxed.now) result }
 {
     let inner = support::child::<N>(boxed)?;
-    if inner.syntax().kind() == SyntaxKind::IDENT_PAT {
+    if support::is_of_kind(inner.syntax(), SyntaxKind::IDENT_PAT) {
         first_name(inner.syntax())
     } else {
         None
