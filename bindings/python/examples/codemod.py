@@ -4,6 +4,7 @@
 usage: codemod.py FILE   writes the new text to the standard output
 """
 import sys
+from typing import Iterator, Tuple
 
 import ras
 from ras import ast
@@ -13,14 +14,14 @@ CALLS = {"==": "is_none", "!=": "is_some"}
 FIRM = (ast.PathExpr, ast.ParenExpr, ast.CallExpr, ast.MethodCallExpr, ast.FieldExpr, ast.IndexExpr, ast.TryExpr, ast.AwaitExpr, ast.MacroExpr)
 
 
-def edits(tree):
+def edits(tree: ras.Tree) -> Iterator[Tuple[int, int, str]]:
     for sum in ast.BinExpr.within(tree.root):
         parts = [it for it in sum.syntax.children() if it.kind not in ("WHITESPACE", "COMMENT")]
         if len(parts) != 3 or parts[2].text != "None" or parts[1].text not in CALLS:
             continue
-        left, call = ast.Expr.cast(parts[0]), f".{CALLS[parts[1].text]}()"
-        firm = isinstance(left, FIRM)
-        yield from [(left.syntax.start, left.syntax.start, "" if firm else "("), (left.syntax.end, parts[2].end, call if firm else ")" + call)]
+        left, call = parts[0], f".{CALLS[parts[1].text]}()"
+        firm = isinstance(ast.Expr.cast(left), FIRM)
+        yield from [(left.start, left.start, "" if firm else "("), (left.end, parts[2].end, call if firm else ")" + call)]
 
 
 if __name__ == "__main__":

@@ -4,11 +4,12 @@
 usage: rewrite.py RULE FILE..
 """
 import sys
+from typing import List
 
 import ras
 
 
-def main(rule, paths):
+def main(rule: str, paths: List[str]) -> None:
     for path in paths:
         with open(path, "rb") as file:
             tree = ras.parse(file.read(), errors="none")

@@ -1,6 +1,6 @@
 # The types of the module's names; their documentation is beside their code.
 from collections.abc import Generator, Iterable, Iterator
-from typing import Literal, NamedTuple
+from typing import Literal, NamedTuple, NoReturn
 
 __all__ = [
     "Element", "EscapeError", "Live", "Match", "ParseError", "RewriteError", "RuleError", "SyntaxError", "Tree", "contextual_keyword", "is_identifier",
@@ -72,6 +72,8 @@ class Live:
     data: bytes
     edition: int
     def __init__(self, text: str | bytes, edition: int = 2024) -> None: ...
+    def __copy__(self, *_: object) -> NoReturn: ...
+    def __deepcopy__(self, *_: object) -> NoReturn: ...
     def edit(self, start: int, end: int, insert: str | bytes) -> None: ...
     @property
     def text(self) -> str: ...

@@ -240,7 +240,7 @@ class Word(ctypes.Structure):
     ]
 
 
-def declare(library):
+def declare(library: ctypes.CDLL) -> ctypes.CDLL:
     """Says of each function of the library what it takes and answers."""
     library.ras_c_errors.argtypes = [ctypes.c_void_p, ctypes.c_uint32, ctypes.c_void_p, ctypes.c_size_t, ctypes.c_void_p, ctypes.c_size_t, ctypes.c_void_p]
     library.ras_c_errors.restype = ctypes.c_uint32

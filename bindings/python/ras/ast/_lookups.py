@@ -78,6 +78,6 @@ def every(view: View, of: str) -> Any:
     return list(_all(view, of))
 
 
-def token(view: View, kind: str) -> Any:
+def token(view: View, kind: str) -> Optional[Element]:
     """The first child that is a token of this kind; None if there is none."""
     return next((it for it in view.syntax.children() if it.kind == kind and it.is_token), None)
