@@ -358,6 +358,28 @@ fn text_with(
     )
 }
 
+// Which of the pairs of a text may go, and the text without these.
+fn freed<F: FrontEnd>(
+    alloc: Global,
+    front: &F,
+    edition: Edition,
+    full: Rendered,
+) -> Result<(Vec<bool>, String), Failure>
+    ensures { IfOk result (λ p. WithoutNeedless (F.answers front.now) edition (string_bytes p.1)) }
+{
+    let parse: Parse<SyntaxNode> = read(
+        alloc,
+        front,
+        Entry::SourceFile,
+        full.text.as_str(),
+        edition,
+    )?;
+    let tried = candidates(alloc, parse.root(), &full.pairs)?;
+    let needless = find_needless_among(alloc, front, Entry::SourceFile, edition, &parse, tried)?;
+    let gone = gone_of(alloc, &full.pairs, &needless.pairs)?;
+    Ok((gone, needless.text.unwrap_or(full.text)))
+}
+
 // The edit of an old tree by which its matches are replaced, and the new text that comes out.
 fn planned<F: FrontEnd>(
     alloc: Global,
@@ -371,17 +393,7 @@ fn planned<F: FrontEnd>(
     ensures { IfOk result (λ p. WithoutNeedless (F.answers front.now) edition (string_bytes p.1)) }
 {
     let full = text_with(alloc, rules, root, matches, open, Pairs::All)?;
-    let parse: Parse<SyntaxNode> = read(
-        alloc,
-        front,
-        Entry::SourceFile,
-        full.text.as_str(),
-        edition,
-    )?;
-    let tried = candidates(alloc, parse.root(), &full.pairs)?;
-    let needless = find_needless_among(alloc, front, Entry::SourceFile, edition, &parse, tried)?;
-    let gone = gone_of(alloc, &full.pairs, &needless.pairs)?;
-    let meant = needless.text.unwrap_or(full.text);
+    let (gone, meant) = freed(alloc, front, edition, full)?;
     let pairs = Pairs::Without(&gone, meant.as_str());
     let last = text_with(alloc, rules, root, matches, open, pairs)?;
     Ok((edit_of(alloc, &last)?, meant))

@@ -241,6 +241,35 @@ fn moved(alloc: Global, lists: &[usize], ends: &[usize]) -> Result<Vec<usize>, A
     Ok(places)
 }
 
+// A side as one of a kind, with arms made of its placeholders where it needs them.
+fn best_reading<F: FrontEnd>(
+    alloc: Global,
+    words: &Words<'_, F>,
+    side: &Side,
+    kind: RuleKind,
+) -> Result<Reading, RuleError>
+    ensures { IfErr result (λ e. is_other e.fault ≡ true) }
+{
+    let text = side.text.as_str();
+    let reading = reading_of(alloc, words, text, &side.lists, kind)?;
+    if reading.error.is_none() || reading.arms.is_empty() {
+        return Ok(reading);
+    }
+    let arms = with_arms(alloc, text, &reading.arms)?;
+    let lists = moved(alloc, &side.lists, &reading.arms)?;
+    let other = reading_of(alloc, words, arms.as_str(), &lists, kind)?;
+    Ok(if other.error.is_none() { other } else { reading })
+}
+
+fn unfit(alloc: Global, kind: RuleKind, told: &str, at: usize) -> Result<Unfit, RuleError>
+    ensures { IfErr result (λ e. is_other e.fault ≡ true) }
+{
+    Ok(Unfit {
+        message: format!(in alloc; "{}: {told}", kind.name())?,
+        at,
+    })
+}
+
 /// The node of a side as one of a kind; or why it is none.
 pub(crate) fn node_of<F: FrontEnd>(
     alloc: Global,
@@ -250,23 +279,10 @@ pub(crate) fn node_of<F: FrontEnd>(
 ) -> Result<Result<SyntaxNode, Unfit>, RuleError>
     ensures { IfErr result (λ e. is_other e.fault ≡ true) }
 {
-    let text = side.text.as_str();
-    let mut reading = reading_of(alloc, words, text, &side.lists, kind)?;
-    if reading.error.is_some() && !reading.arms.is_empty() {
-        let arms = with_arms(alloc, text, &reading.arms)?;
-        let lists = moved(alloc, &side.lists, &reading.arms)?;
-        let other = reading_of(alloc, words, arms.as_str(), &lists, kind)?;
-        if other.error.is_none() {
-            reading = other;
-        }
+    let reading = best_reading(alloc, words, side, kind)?;
+    match (reading.error, reading.node) {
+        (Some((told, at)), _) => Ok(Err(unfit(alloc, kind, told.as_str(), at)?)),
+        (None, Some(node)) => Ok(Ok(node)),
+        (None, None) => Ok(Err(unfit(alloc, kind, "it is not the whole text", 0)?)),
     }
-    let (told, at) = match (reading.error, reading.node) {
-        (Some((message, at)), _) => (message, at),
-        (None, Some(node)) => return Ok(Ok(node)),
-        (None, None) => (String::from_str(alloc, "it is not the whole text")?, 0),
-    };
-    Ok(Err(Unfit {
-        message: format!(in alloc; "{}: {told}", kind.name())?,
-        at,
-    }))
 }

@@ -10,7 +10,7 @@ use ras_front_end::ParseError;
 use rule_plan::chosen;
 use rust_print::failure::Failure;
 use rust_print::forms::ReportOptions;
-use rust_print::source::{Source, parsed};
+use rust_print::source::{Reading, Source, parsed};
 use std::alloc::Global;
 use text_edit::TextEdit;
 
@@ -126,6 +126,28 @@ fn reads_as_meant(
     are_same(old.text, old.part(rest), new.text, new.part(behind))
 }
 
+// How many errors a text has, and the steps of its tree, of which none is passed.
+fn read(alloc: Global, text: &str, reading: Reading) -> Result<(usize, Side<'_>), Failure> {
+    let parse = parsed(alloc, text, reading)?;
+    let steps = steps(alloc, parse.root())?;
+    Ok((parse.stored().len(), Side::new(text, steps)))
+}
+
+// Whether a text has no more errors than the old one, and its tree is as meant.
+fn is_meant(
+    alloc: Global,
+    source: Source<'_>,
+    done: &Replaced,
+    text: &str,
+    marks: &[bool],
+    options: ReportOptions,
+) -> Result<bool, Failure> {
+    let (before, mut old) = read(alloc, source.text, options.reading)?;
+    let (_, mut all) = read(alloc, done.text.as_str(), options.reading)?;
+    let (now, mut new) = read(alloc, text, options.reading)?;
+    Ok(now <= before && reads_as_meant(&mut old, &mut all, &mut new, &done.edit, marks))
+}
+
 /// A text with the marked ones of its replacements, by their numbers from 0: what `done` has for
 /// the others stays as it was.
 ///
@@ -147,18 +169,7 @@ pub fn with_taken(
         ≡ edited source.entry.text.now (with_all [] (chosen marks.now done.now.edit))) }
 {
     let taken = edited(alloc, source.text, &done.edit, marks)?;
-    let old = parsed(alloc, source.text, options.reading)?;
-    let all = parsed(alloc, done.text.as_str(), options.reading)?;
-    let new = parsed(alloc, taken.text.as_str(), options.reading)?;
-    let is_meant = new.stored().len() <= old.stored().len()
-        && reads_as_meant(
-            &mut Side::new(source.text, steps(alloc, old.root())?),
-            &mut Side::new(done.text.as_str(), steps(alloc, all.root())?),
-            &mut Side::new(taken.text.as_str(), steps(alloc, new.root())?),
-            &done.edit,
-            marks,
-        );
-    if is_meant {
+    if is_meant(alloc, source, done, taken.text.as_str(), marks, options)? {
         Ok(taken)
     } else {
         Err(Failure::Kept(OTHERWISE))
