@@ -261,7 +261,7 @@ fn best_reading<F: FrontEnd>(
     Ok(if other.error.is_none() { other } else { reading })
 }
 
-fn unfit(alloc: Global, kind: RuleKind, told: &str, at: usize) -> Result<Unfit, RuleError>
+fn misfit(alloc: Global, kind: RuleKind, told: &str, at: usize) -> Result<Unfit, RuleError>
     ensures { IfErr result (λ e. is_other e.fault ≡ true) }
 {
     Ok(Unfit {
@@ -281,8 +281,8 @@ pub(crate) fn node_of<F: FrontEnd>(
 {
     let reading = best_reading(alloc, words, side, kind)?;
     match (reading.error, reading.node) {
-        (Some((told, at)), _) => Ok(Err(unfit(alloc, kind, told.as_str(), at)?)),
+        (Some((told, at)), _) => Ok(Err(misfit(alloc, kind, told.as_str(), at)?)),
         (None, Some(node)) => Ok(Ok(node)),
-        (None, None) => Ok(Err(unfit(alloc, kind, "it is not the whole text", 0)?)),
+        (None, None) => Ok(Err(misfit(alloc, kind, "it is not the whole text", 0)?)),
     }
 }
