@@ -258,7 +258,11 @@ fn best_reading<F: FrontEnd>(
     let arms = with_arms(alloc, text, &reading.arms)?;
     let lists = moved(alloc, &side.lists, &reading.arms)?;
     let other = reading_of(alloc, words, arms.as_str(), &lists, kind)?;
-    Ok(if other.error.is_none() { other } else { reading })
+    Ok(if other.error.is_none() {
+        other
+    } else {
+        reading
+    })
 }
 
 fn misfit(alloc: Global, kind: RuleKind, told: &str, at: usize) -> Result<Unfit, RuleError>
