@@ -1,4 +1,4 @@
-//! Trees whose text and rows the library hands over: they stand by themselves, on any thread, and leave nothing behind.
+//! Trees whose text and rows the library hands over: they stand by themselves, on any thread.
 use ras::{Edition, Entry, Errors, Live, SyntaxKind, TextRange, Tree};
 use std::fmt::Write;
 use std::thread;
@@ -112,25 +112,4 @@ fn edits_leave_a_tree_as_it_was() -> Result<(), Fail> {
     assert_eq!(live.tree()?, parse("fn ff() { g(2 + 3) } fn h() {}"));
     assert_eq!((edited.text(), tree.text()), ("fn f() { g(2 + 3) } fn h() {}", text));
     Ok(())
-}
-
-// The kilobytes of this process that are in memory.
-#[cfg(target_os = "linux")]
-fn resident() -> usize {
-    let status = std::fs::read_to_string("/proc/self/status").expect("Linux has it");
-    let line = status.lines().find_map(|it| it.strip_prefix("VmRSS:")).expect("it has the line");
-    line.trim().trim_end_matches(" kB").parse().expect("it is a number")
-}
-
-#[cfg(target_os = "linux")]
-#[test]
-fn a_dropped_tree_leaves_nothing() {
-    let text = long_text(200_000);
-    let rounds = |number| (0..number).for_each(|_| assert!(!parse(&text).rows().is_empty()));
-    rounds(3);
-    let before = resident();
-    rounds(40);
-    // The rows of one tree have some 1,500 kilobytes.
-    let more = resident().saturating_sub(before);
-    assert!(more < 20_000, "{more} kB stay behind");
 }
