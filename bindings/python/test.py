@@ -344,7 +344,8 @@ class Types(unittest.TestCase):
         classes = {it.name: it for it in told.body if isinstance(it, ast.ClassDef)}
         self.assertEqual({*functions, *classes}, set(ras.__all__))
         for name, of in classes.items():
-            members = {it.name: [arg.arg for arg in it.args.args] for it in of.body if isinstance(it, ast.FunctionDef)}
+            heads = {it.name: it.args for it in of.body if isinstance(it, ast.FunctionDef)}
+            members = {name: [arg.arg for arg in [*it.args, *filter(None, [it.vararg])]] for name, it in heads.items()}
             annotated = {it.target.id for it in of.body if isinstance(it, ast.AnnAssign)}
             known = vars(getattr(ras, name))
             for member, parameters in members.items():
