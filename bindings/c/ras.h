@@ -83,6 +83,9 @@ void rattle_dealloc(void *at);
 /* A number that no kind has. */
 #define RAS_NO_KIND 4294967295u
 
+/* The text in place of an expression is not one expression. Nothing was written. */
+#define RAS_NO_EXPR 17u
+
 /* The rules are refused. message and fault say why and where; nothing else was written. */
 #define RAS_BAD_RULE 13u
 
@@ -144,7 +147,7 @@ void rattle_dealloc(void *at);
 #define RAS_FAULT 64u
 
 /* A number made of the kinds, constants, structs and calls of the library. Bindings that know another number were made for others. */
-#define RAS_VERSION 1658320449u
+#define RAS_VERSION 3409237994u
 
 /* The statuses of a wrong escape or character. */
 enum ras_fault {
@@ -848,6 +851,24 @@ uint32_t ras_c_rows_from(
     uint32_t from,
     ras_flat_row *rows,
     size_t rows_len);
+
+/*
+ * Tests whether an expression, whose text is own, needs parentheses in place of the expression
+ * with exactly this range, in a text of an edition such as 2024. answer is 1 if it does, and 0
+ * if not. If several expressions have the range, the innermost is the place.
+ *
+ * Returns RAS_OK, RAS_NOT_UTF8, RAS_TOO_LONG, RAS_NO_MEMORY, RAS_NO_EDITION, RAS_NO_PLACE if no
+ * expression has the range, or RAS_NO_EXPR if own is not one expression. Both texts are parsed.
+ */
+uint32_t ras_c_needs_parens(
+    const uint8_t *text,
+    size_t text_len,
+    uint32_t edition,
+    uint32_t start,
+    uint32_t end,
+    const uint8_t *own,
+    size_t own_len,
+    uint32_t *answer);
 
 /*
  * Parses a text as a Rust file of an edition, such as 2024. Writes the tree as rows in preorder,

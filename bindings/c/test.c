@@ -256,6 +256,28 @@ static void tokens_and_parens(void) {
     owes(ras_c_reads_back(BYTES(sum), 2016, 9, 20, &answer) == RAS_NO_EDITION && answer == 1, "a refused text leaves the answer");
 }
 
+/* Whether an expression needs parentheses in place of the one at a range: its answer, or 16 and its status. */
+static uint32_t needs(const char *text, uint32_t start, uint32_t end, const char *own) {
+    uint32_t answer = 9, status = ras_c_needs_parens(BYTES(text), 2024, start, end, BYTES(own), &answer);
+    owes(status == RAS_OK ? answer <= 1 : answer == 9, "a refused question leaves the answer");
+    return status == RAS_OK ? answer : 16 + status;
+}
+
+static void places(void) {
+    const char *sum = "fn f() { a * b + c; let x = d; }";
+    owes(needs(sum, 9, 10, "x + y") == 1 && needs(sum, 9, 10, "x * y") == 0, "an operand of a product");
+    owes(needs(sum, 13, 14, "x * y") == 1 && needs(sum, 17, 18, "x * y") == 0 && needs(sum, 17, 18, "x + y") == 1, "the right one is narrower");
+    owes(needs(sum, 9, 14, "x + y") == 0 && needs(sum, 9, 14, "if x {} else {}") == 1, "a block does not begin a statement that goes on");
+    owes(needs(sum, 28, 29, "x = y") == 0 && needs(sum, 28, 29, "if x {} else {}") == 0, "a value needs none");
+    owes(needs("fn f() { if a {} }", 12, 13, "S {}") == 1 && needs("fn f() { (a); }", 10, 11, "x..y") == 0, "a record in a condition, and in a pair");
+    owes(needs(sum, 0, 2, "x") == 16 + RAS_NO_PLACE && needs(sum, 9, 12, "x") == 16 + RAS_NO_PLACE, "no expression has the range");
+    owes(needs(sum, 10, 9, "x") == 16 + RAS_NO_PLACE && needs(sum, 99, 99, "x") == 16 + RAS_NO_PLACE, "the text has no such range");
+    owes(needs(sum, 9, 10, "x y") == 16 + RAS_NO_EXPR && needs(sum, 9, 10, "") == 16 + RAS_NO_EXPR, "it is not one expression");
+    owes(needs(sum, 9, 10, "\xff") == 16 + RAS_NOT_UTF8 && needs("\xff", 0, 1, "x") == 16 + RAS_NOT_UTF8, "bad UTF-8 is no expression");
+    uint32_t answer = 9;
+    owes(ras_c_needs_parens(BYTES("\xff"), 2016, 0, 1, BYTES("\xff"), &answer) == RAS_NO_EDITION && answer == 9, "there is no edition 2016");
+}
+
 /* What a call tells of a string's text: its status, and whether the value is this, in a buffer that has as much room and in none. */
 typedef uint32_t string_call(const uint8_t *, size_t, uint8_t *, size_t, uint32_t *);
 
@@ -621,6 +643,9 @@ static void refuses(void) {
     owes(status == RAS_OK || (status == RAS_NO_MEMORY && count == 9), "parens is done or refused");
     status = ras_c_reads_back(BYTES(TEXT), 2024, 20, 31, &answer);
     owes(status != RAS_NO_MEMORY ? answer != 9 || status == RAS_NO_PLACE : answer == 9, "reads_back is done or refused");
+    answer = 9;
+    status = ras_c_needs_parens(BYTES(TEXT), 2024, 20, 31, BYTES("a + b"), &answer);
+    owes(status != RAS_NO_MEMORY ? answer != 9 || status == RAS_NO_PLACE : answer == 9, "needs_parens is done or refused");
     uint8_t value[64] = {7};
     count = 9;
     status = ras_c_string_value(BYTES("\"\\n\""), value, sizeof value, &count);
@@ -650,6 +675,7 @@ int main(void) {
     words();
     rewrites();
     tokens_and_parens();
+    places();
     values();
     edits();
     tells_what_is_new();

@@ -3,6 +3,7 @@
 import ast
 import copy
 import doctest
+import gc
 import inspect
 import os
 import pickle
@@ -11,6 +12,7 @@ import subprocess
 import sys
 import threading
 import unittest
+import weakref
 
 import ras
 import ras.ast as views
@@ -223,6 +225,48 @@ class Trees(unittest.TestCase):
     def test_needed_pairs_stay(self):
         for text in STAY:
             self.assertEqual(ras.parse(f"fn f() {{ {text} }}").needless_parens(), [], text)
+
+    def test_pairs_are_needed_in_places(self):
+        tree = ras.parse("fn f() { a * b + c; if d {} (e); }")
+        needs = {it.text: it for it in [*tree.find("PATH_EXPR"), *tree.find("BIN_EXPR")]}
+        for place, text, is_needed in [
+            ("a", "x + y", True), ("a", "x * y", False), ("b", "x * y", True), ("a * b", "x + y", False), ("c", "x + y", True),
+            ("d", "S {}", True), ("d", b"s.a", False), ("e", "x = y", False),
+        ]:
+            self.assertIs(needs[place].needs_parens(text), is_needed, (place, text))
+        for text in ("", "x y", "let x = 1;"):
+            self.assertRaises(ValueError, needs["a"].needs_parens, text)
+        self.assertRaises(ValueError, tree.root.needs_parens, "x")
+        self.assertRaises(ValueError, ras.parse_expr("a").root.needs_parens, "x")
+        self.assertRaises(TypeError, needs["a"].needs_parens, 5)
+
+    def test_offsets_have_lines_and_columns(self):
+        text = "ab\n\U0001f980c\r\n\nü"
+        tree = ras.parse(text)
+        for encoding, width in (("utf-8", lambda it: len(it.encode())), ("utf-16", lambda it: len(it.encode("utf-16-le")) // 2), ("utf-32", len)):
+            for n in range(len(text) + 1):
+                before, offset = text[:n], len(text[:n].encode())
+                place = tree.line_col(offset, encoding)
+                self.assertEqual(place, (before.count("\n"), width(before[before.rfind("\n") + 1 :])))
+                self.assertEqual(tree.offset(*place, encoding), offset)
+        self.assertEqual(ras.parse("").line_col(0), (0, 0))
+        for refused in (-1, len(tree.data) + 1, 4, 12):
+            self.assertRaises(ValueError, tree.line_col, refused)
+        for line, col, encoding in ((-1, 0, "utf-8"), (4, 0, "utf-8"), (0, 3, "utf-8"), (1, 1, "utf-8"), (1, 1, "utf-16"), (1, 5, "utf-16"), (0, 0, "latin-1")):
+            self.assertRaises(ValueError, tree.offset, line, col, encoding)
+
+    def test_a_tree_goes_when_nothing_holds_it(self):
+        tree = ras.parse("fn f() {}")
+        rows, node, copied = tree.rows, weakref.ref(tree), copy.copy(tree)
+        del tree
+        gc.collect()
+        self.assertIsNone(node())
+        self.assertEqual([it.kind for it in copied.root.children()], ["FN"])
+        del copied
+        gc.collect()
+        # A view of the rows keeps their memory, and nothing writes to it.
+        self.assertEqual(rows[: 4].tolist()[1:], [0, len(rows) // 4, 0])
+        self.assertRaises(TypeError, rows.__setitem__, 0, 1)
 
     def test_texts_are_str_or_bytes(self):
         live = ras.Live("")

@@ -10,10 +10,12 @@
 There is a tree whatever the text is, and each byte of the text is in one token of it. One call reads a text; nodes and tokens
 are made on demand. Offsets and ranges are in bytes of the text's UTF-8.
 """
+import bisect
 import ctypes
 import functools
 import mmap
 import os
+import re
 import threading
 import typing
 import weakref
@@ -21,7 +23,7 @@ import weakref
 from . import _raw
 
 __all__ = [
-    "Element", "EscapeError", "Live", "Match", "ParseError", "RewriteError", "RuleError", "SyntaxError", "Tree", "contextual_keyword", "is_identifier",
+    "Element", "EscapeError", "LineCol", "Live", "Match", "ParseError", "RewriteError", "RuleError", "SyntaxError", "Tree", "contextual_keyword", "is_identifier",
     "is_raw_identifier", "keyword", "kind_name", "kind_of_name", "parse", "parse_expr", "parse_items",
     "parse_meta_item", "parse_pattern", "parse_statements", "parse_type", "rewrite",
 ]
@@ -113,6 +115,23 @@ class Match(typing.NamedTuple):
     rule: int
     start: int
     end: int
+
+
+class LineCol(typing.NamedTuple):
+    """A place in a text: its line and its column, both from 0."""
+
+    line: int
+    col: int
+
+
+# The bytes of a unit of an encoding.
+_UNITS = {"utf-8": 1, "utf-16": 2, "utf-32": 4}
+
+
+def _encoding_of(encoding):
+    if encoding not in _UNITS:
+        raise ValueError(f"an encoding of columns is one of {', '.join(map(repr, _UNITS))}, not {encoding!r}")
+    return encoding
 
 
 _NOT_REPLACED = {
@@ -337,27 +356,70 @@ def _edition_of(edition):
     return int(edition)
 
 
+# So many errors and bytes of messages have room at first.
+_ERROR_ROOM, _MESSAGE_ROOM = 16, 1024
+
+
+def _told_errors(counts, errors, messages):
+    """The errors that a call wrote."""
+    found, told, at = [], messages.raw[: counts.messages], 0
+    for n in range(counts.errors):
+        row = errors[n]
+        message = told[at : at + row.message].decode()
+        found.append(SyntaxError(message, row.start, row.end, n >= counts.errors - counts.violations))
+        at += row.message
+    return found
+
+
+def _errors_of(call):
+    """The errors that a call writes to its buffers, which is called again if they had too little room."""
+    counts, error_room, message_room = _raw.Counts(), _ERROR_ROOM, _MESSAGE_ROOM
+    while True:
+        errors, messages = (_raw.ErrorRow * error_room)(), ctypes.create_string_buffer(message_room)
+        if _had_room(call(errors, error_room, messages, message_room, ctypes.byref(counts))):
+            return _told_errors(counts, errors, messages)
+        error_room, message_room = counts.errors, max(counts.messages, 1)
+
+
 class Tree:
     """A text, its lossless tree, and what is wrong with it."""
 
-    # What its text was read as.
+    # What its text was read as. Its `rows` have four numbers for each node and token: the kind, where it starts, the first row after its
+    # subtree, its parent's row.
     _entry = _raw.ENTRY_FILE
 
     def __init__(self, text, edition=2024, errors="all"):
         self._read(_raw.ENTRY_FILE, text, edition, errors)
 
     def _read(self, entry, text, edition, errors):
-        """Takes what the library writes for a text."""
-        data, edition = _bytes_of(text), _edition_of(edition)
+        """Takes the tree of a text from the library."""
+        data, edition, choice = _bytes_of(text), _edition_of(edition), _choice(errors)
         self._entry = entry
-        self._tell(data, edition, functools.partial(_library.ras_c_read_as, entry, _choice(errors), data, len(data), edition))
+        if entry == _raw.ENTRY_FILE:
+            self._take(data, edition, choice)
+        else:
+            self._tell(data, edition, functools.partial(_library.ras_c_read_as, entry, choice, data, len(data), edition))
         return self
 
-    def _tell(self, data, edition, call):
-        """Takes what a call writes to its buffers, which is called again if they had too little room."""
+    def _take(self, data, edition, choice):
+        """Takes the rows of a file in the library's own memory, without a copy of them."""
         self.data, self.edition = data, edition
-        counts = _raw.Counts()
-        row_room, error_room, message_room = 2 * len(data) + 64, 16, 1024
+        handle, tree = _raw.Handle(), _raw.TreeRows()
+        try:
+            _had_room(_library.ras_c_parse(data, len(data), edition, ctypes.byref(handle)))
+            self.errors = _errors_of(functools.partial(_library.ras_c_errors, ctypes.byref(handle), choice))
+            _had_room(_library.ras_c_take_tree(ctypes.byref(handle), ctypes.byref(tree)))
+        finally:
+            _library.ras_c_free(ctypes.byref(handle))
+        rows = (ctypes.c_uint32 * (4 * tree.row_count)).from_address(tree.rows)
+        # A view of the rows keeps `rows`, and `rows` the library's memory. A view may outlive what runs at the exit.
+        weakref.finalize(rows, _library.ras_c_free_tree, ctypes.byref(tree)).atexit = False
+        self.rows = memoryview(rows).cast("B").cast("I").toreadonly()
+
+    def _tell(self, data, edition, call):
+        """Takes the rows that a call writes to its buffers, which is called again if they had too little room."""
+        self.data, self.edition = data, edition
+        counts, row_room, error_room, message_room = _raw.Counts(), 2 * len(data) + 64, _ERROR_ROOM, _MESSAGE_ROOM
         while True:
             # A page of it is made when the library writes to it.
             rows = mmap.mmap(-1, 16 * row_room, flags=mmap.MAP_PRIVATE | mmap.MAP_ANONYMOUS)
@@ -367,14 +429,8 @@ class Tree:
             if _had_room(call(at, row_room, errors, error_room, messages, message_room, ctypes.byref(counts))):
                 break
             row_room, error_room, message_room = counts.rows, counts.errors, max(counts.messages, 1)
-        # Four numbers a row: the kind, where it starts, the first row after its subtree, its parent's row.
-        self.rows = memoryview(rows).cast("I")[: 4 * counts.rows]
-        self.errors, at = [], 0
-        for n in range(counts.errors):
-            row = errors[n]
-            message = messages.raw[at : at + row.message].decode()
-            self.errors.append(SyntaxError(message, row.start, row.end, n >= counts.errors - counts.violations))
-            at += row.message
+        self.rows = memoryview(rows).cast("I")[: 4 * counts.rows].toreadonly()
+        self.errors = _told_errors(counts, errors, messages)
 
     def __len__(self):
         return len(self.rows) // 4
@@ -392,6 +448,52 @@ class Tree:
     def find(self, kind):
         """The nodes and tokens of a kind, in preorder. It looks at numbers alone until one is found."""
         return self.root.find(kind)
+
+    @functools.cached_property
+    def _lines(self):
+        """Where each line starts, and where the text ends."""
+        return [0, *(it.end() for it in re.finditer(b"\n", self.data)), len(self.data) + 1]
+
+    def line_col(self, offset, encoding="utf-8"):
+        """The line and the column of an offset in bytes, both from 0. The column is in units of an encoding: in bytes for "utf-8", in what
+        editors count for "utf-16", in characters for "utf-32". ValueError if the offset is not in the text, or is inside a character.
+
+        The first call takes time linear in the text, and each one time linear in the column.
+
+        >>> tree = parse("// \U0001f980\nfn f() {}")
+        >>> tree.line_col(tree.root.child("FN").end), tree.line_col(7), tree.line_col(7, "utf-16")
+        (LineCol(line=1, col=9), LineCol(line=0, col=7), LineCol(line=0, col=5))
+        """
+        units = _UNITS[_encoding_of(encoding)]
+        if not 0 <= offset <= len(self.data):
+            raise ValueError(f"{offset} is no offset of the text, which has {len(self.data)} bytes")
+        line = bisect.bisect_right(self._lines, offset) - 1
+        try:
+            before = self.data[self._lines[line] : offset].decode()
+        except UnicodeDecodeError:
+            raise ValueError(f"{offset} is inside a character") from None
+        return LineCol(line, len(before.encode(encoding + "-le" * (units > 1))) // units)
+
+    def offset(self, line, col, encoding="utf-8"):
+        """The offset in bytes of a line and a column, as `line_col` gives them. A line feed is the last character of its line. ValueError if
+        the text has no such line, the line no such column, or the column is inside a character.
+
+        >>> tree = parse("// \U0001f980\nfn f() {}")
+        >>> tree.offset(1, 3), tree.offset(0, 5, "utf-16")
+        (11, 7)
+        """
+        units = _UNITS[_encoding_of(encoding)]
+        if not 0 <= line < len(self._lines) - 1:
+            raise ValueError(f"the text has no line {line}: it has {len(self._lines) - 1}, counted from 0")
+        start, end = self._lines[line], self._lines[line + 1] - 1
+        whole = encoding + "-le" * (units > 1)
+        wide = self.data[start:end].decode().encode(whole)
+        if not 0 <= col <= len(wide) // units:
+            raise ValueError(f"line {line} has no column {col}")
+        try:
+            return start + len(wide[: col * units].decode(whole).encode())
+        except UnicodeDecodeError:
+            raise ValueError(f"column {col} of line {line} is inside a character") from None
 
     def edit(self, edits):
         """The tree of the text in which each range of bytes is replaced: `edits` are tuples of a start, an end and a text, in any order.
@@ -511,6 +613,9 @@ class Live:
         return tree
 
 
+_NO_EXPRESSION = {_raw.NO_PLACE: "no expression has its range", _raw.NO_EXPR: "the text is not one expression"}
+
+
 class Element:
     """A node or a token of a tree. Two are equal if they are the same place of the same tree."""
 
@@ -570,6 +675,24 @@ class Element:
         """
         value_of = _VALUES.get(self.kind) if self.is_token else None
         return value_of and value_of(self.tree.data[self.start : self.end])
+
+    def needs_parens(self, text):
+        """Whether an expression with this text needs parentheses in place of this one, in a tree of a file. The place is the innermost
+        expression with its range. Both texts are parsed. ValueError if the text is not one expression, if nothing with its range is one, or
+        if its tree was read as a part of a file; ParseError as for `parse`.
+
+        >>> a = next(parse("fn f() { a * b }").find("PATH_EXPR"))
+        >>> a.needs_parens("x + y"), a.needs_parens("x.y")
+        (True, False)
+        """
+        data, own, answer = self.tree.data, _bytes_of(text), ctypes.c_uint32()
+        if self.tree._entry != _raw.ENTRY_FILE:
+            raise ValueError("its tree is not one of a file")
+        status = _library.ras_c_needs_parens(data, len(data), self.tree.edition, self.start, self.end, own, len(own), ctypes.byref(answer))
+        if status in _NO_EXPRESSION:
+            raise ValueError(_NO_EXPRESSION[status])
+        _had_room(status)
+        return answer.value == 1
 
     @property
     def parent(self):

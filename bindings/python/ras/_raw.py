@@ -43,6 +43,9 @@ ALL_ERRORS = 3
 # A number that no kind has.
 NO_KIND = 4294967295
 
+# The text in place of an expression is not one expression. Nothing was written.
+NO_EXPR = 17
+
 # The rules are refused. `message` and `fault` say why and where; nothing else was written.
 BAD_RULE = 13
 
@@ -100,7 +103,7 @@ TOO_LARGE = 10
 FAULT = 64
 
 # A number made of the kinds, constants, structs and calls of the library. Bindings that know another number were made for others.
-VERSION = 1658320449
+VERSION = 3409237994
 
 # What can be wrong with an escape or a character: the names and the messages, from the status FAULT on.
 FAULTS = [
@@ -268,6 +271,8 @@ def declare(library: ctypes.CDLL) -> ctypes.CDLL:
     library.ras_c_reads_back.restype = ctypes.c_uint32
     library.ras_c_rows_from.argtypes = [ctypes.c_void_p, ctypes.c_uint32, ctypes.c_void_p, ctypes.c_size_t]
     library.ras_c_rows_from.restype = ctypes.c_uint32
+    library.ras_c_needs_parens.argtypes = [ctypes.c_void_p, ctypes.c_size_t, ctypes.c_uint32, ctypes.c_uint32, ctypes.c_uint32, ctypes.c_void_p, ctypes.c_size_t, ctypes.c_void_p]
+    library.ras_c_needs_parens.restype = ctypes.c_uint32
     library.ras_c_read.argtypes = [ctypes.c_void_p, ctypes.c_size_t, ctypes.c_uint32, ctypes.c_void_p, ctypes.c_size_t, ctypes.c_void_p, ctypes.c_size_t, ctypes.c_void_p, ctypes.c_size_t, ctypes.c_void_p]
     library.ras_c_read.restype = ctypes.c_uint32
     library.ras_c_read_expr.argtypes = [ctypes.c_void_p, ctypes.c_size_t, ctypes.c_uint32, ctypes.c_void_p, ctypes.c_size_t, ctypes.c_void_p, ctypes.c_size_t, ctypes.c_void_p, ctypes.c_size_t, ctypes.c_void_p]

@@ -42,6 +42,9 @@ pub const ALL_ERRORS: u32 = 3;
 /// A number that no kind has.
 pub const NO_KIND: u32 = 4294967295;
 
+/// The text in place of an expression is not one expression. Nothing was written.
+pub const NO_EXPR: u32 = 17;
+
 /// The rules are refused. `message` and `fault` say why and where; nothing else was written.
 pub const BAD_RULE: u32 = 13;
 
@@ -99,7 +102,7 @@ pub const TOO_LARGE: u32 = 10;
 pub const FAULT: u32 = 64;
 
 /// A number made of the kinds, constants, structs and calls of the library. Bindings that know another number were made for others.
-pub const VERSION: u32 = 1658320449;
+pub const VERSION: u32 = 3409237994;
 
 /// One node or token, in 16 bytes. Rows are numbered from 0 in preorder.
 #[repr(C)]
@@ -426,6 +429,23 @@ unsafe extern "C" {
         from: u32,
         rows: *mut FlatRow,
         rows_len: usize,
+    ) -> u32;
+
+    /// Tests whether an expression, whose text is `own`, needs parentheses in place of the expression
+    /// with exactly this range, in a text of an edition such as 2024. `answer` is 1 if it does, and 0
+    /// if not. If several expressions have the range, the innermost is the place.
+    ///
+    /// Returns [`OK`], [`NOT_UTF8`], [`TOO_LONG`], [`NO_MEMORY`], [`NO_EDITION`], [`NO_PLACE`] if no
+    /// expression has the range, or [`NO_EXPR`] if `own` is not one expression. Both texts are parsed.
+    pub fn ras_c_needs_parens(
+        text: *const u8,
+        text_len: usize,
+        edition: u32,
+        start: u32,
+        end: u32,
+        own: *const u8,
+        own_len: usize,
+        answer: *mut u32,
     ) -> u32;
 
     /// Parses a text as a Rust file of an edition, such as 2024. Writes the tree as rows in preorder,

@@ -5,6 +5,7 @@ pub mod Live
 pub mod Read
 pub mod Tokens
 pub mod Parens
+pub mod Place
 pub mod Values
 pub mod Words
 pub mod Rewriting

@@ -19,6 +19,7 @@ mod owner;
 mod parens;
 mod parsed;
 mod part;
+mod place;
 mod read;
 mod rewriting;
 mod root;

@@ -121,7 +121,7 @@ pub extern "C" fn ras_c_parens(
 }
 
 // Whether the node has exactly this range.
-fn spans(node: &SyntaxNode, range: TextRange) -> bool
+pub(crate) fn spans(node: &SyntaxNode, range: TextRange) -> bool
     ensures { result ≡ spans range node.now }
 {
     let found = node.text_range();

@@ -1,52 +1,12 @@
 //! Random edits of a text: what is typed, deleted and pasted.
 use crate::chance::{Chance, Edit, edited};
+use crate::sessions::TYPED;
 use ra_ap_syntax::{Edition, NodeOrToken, Parse, SourceFile, TextRange, TextSize};
 use rust_front::Rust;
 use std::alloc::Global;
 
-// What a user types, letter by letter and at once.
-const TYPED: [&str; 40] = [
-    "a",
-    "x1",
-    "_",
-    "é",
-    " ",
-    "\n",
-    "\n\n",
-    "(",
-    ")",
-    "{",
-    "}",
-    "[",
-    "]",
-    "<",
-    ">",
-    "\"",
-    "'",
-    "'a",
-    "#",
-    "!",
-    ";",
-    ",",
-    ".",
-    "..",
-    ":",
-    "::",
-    "=",
-    "==",
-    "&",
-    "|",
-    "+",
-    "-",
-    "*",
-    "/",
-    "//",
-    "/*",
-    "*/",
-    "r#\"",
-    "fn f() {}",
-    "let a = 1;",
-];
+// How many of what a user types are typed letter by letter or at once, whatever the text is.
+const LETTERS: usize = 40;
 
 /// Makes edits and counts what came of them.
 #[derive(Drop)]
@@ -98,7 +58,7 @@ impl Edits {
     ) -> anyhow::Result<()> {
         let parse = SourceFile::parse(rt.alloc(), text, &Rust, edition)?;
         for _edit in 0..count {
-            let edit = self.chance.edit(rt.alloc(), text, &TYPED)?;
+            let edit = self.chance.edit(rt.alloc(), text, &TYPED[..LETTERS])?;
             if !self.is_kept(rt.alloc(), &parse, text, &edit, edition)? {
                 println!(rt;
                     "{path} {edition:?} {}..{} {:?}",

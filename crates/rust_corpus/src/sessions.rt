@@ -15,7 +15,7 @@ const WORDS: [&str; 30] = [
     "/*", "*/", "1.", "+", ";", ",", "=>", "x\"a\"", "\"(//\"", "---\n", "union ", "dyn ", "r#\"",
 ];
 
-/// What a user types, and what changes how other text is read.
+/// What a user types, letter by letter and at once, and then what changes how other text is read.
 pub const TYPED: [&str; 84] = [
     "a",
     "x1",
