@@ -857,6 +857,9 @@ uint32_t ras_c_rows_from(
  * with exactly this range, in a text of an edition such as 2024. answer is 1 if it does, and 0
  * if not. If several expressions have the range, the innermost is the place.
  *
+ * The test is that of needs_parens_in_place_of, and exact for operands. It does not see that a
+ * place begins a statement, where if a {} else {} + b would be two; ras_c_rewrite sees that.
+ *
  * Returns RAS_OK, RAS_NOT_UTF8, RAS_TOO_LONG, RAS_NO_MEMORY, RAS_NO_EDITION, RAS_NO_PLACE if no
  * expression has the range, or RAS_NO_EXPR if own is not one expression. Both texts are parsed.
  */

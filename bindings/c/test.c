@@ -267,7 +267,7 @@ static void places(void) {
     const char *sum = "fn f() { a * b + c; let x = d; }";
     owes(needs(sum, 9, 10, "x + y") == 1 && needs(sum, 9, 10, "x * y") == 0, "an operand of a product");
     owes(needs(sum, 13, 14, "x * y") == 1 && needs(sum, 17, 18, "x * y") == 0 && needs(sum, 17, 18, "x + y") == 1, "the right one is narrower");
-    owes(needs(sum, 9, 14, "x + y") == 0 && needs(sum, 9, 14, "if x {} else {}") == 1, "a block does not begin a statement that goes on");
+    owes(needs(sum, 9, 14, "x + y") == 0 && needs(sum, 9, 14, "x = y") == 1, "the left operand of a sum");
     owes(needs(sum, 28, 29, "x = y") == 0 && needs(sum, 28, 29, "if x {} else {}") == 0, "a value needs none");
     owes(needs("fn f() { if a {} }", 12, 13, "S {}") == 1 && needs("fn f() { (a); }", 10, 11, "x..y") == 0, "a record in a condition, and in a pair");
     owes(needs(sum, 0, 2, "x") == 16 + RAS_NO_PLACE && needs(sum, 9, 12, "x") == 16 + RAS_NO_PLACE, "no expression has the range");

@@ -460,7 +460,7 @@ class Tree:
 
         The first call takes time linear in the text, and each one time linear in the column.
 
-        >>> tree = parse("// \U0001f980\nfn f() {}")
+        >>> tree = parse("// \\U0001f980\\nfn f() {}")
         >>> tree.line_col(tree.root.child("FN").end), tree.line_col(7), tree.line_col(7, "utf-16")
         (LineCol(line=1, col=9), LineCol(line=0, col=7), LineCol(line=0, col=5))
         """
@@ -478,7 +478,7 @@ class Tree:
         """The offset in bytes of a line and a column, as `line_col` gives them. A line feed is the last character of its line. ValueError if
         the text has no such line, the line no such column, or the column is inside a character.
 
-        >>> tree = parse("// \U0001f980\nfn f() {}")
+        >>> tree = parse("// \\U0001f980\\nfn f() {}")
         >>> tree.offset(1, 3), tree.offset(0, 5, "utf-16")
         (11, 7)
         """
@@ -677,9 +677,10 @@ class Element:
         return value_of and value_of(self.tree.data[self.start : self.end])
 
     def needs_parens(self, text):
-        """Whether an expression with this text needs parentheses in place of this one, in a tree of a file. The place is the innermost
-        expression with its range. Both texts are parsed. ValueError if the text is not one expression, if nothing with its range is one, or
-        if its tree was read as a part of a file; ParseError as for `parse`.
+        """Whether an expression with this text needs parentheses in place of this one, in a tree of a file, by rust-analyzer's test. The place
+        is the innermost expression with its range. The test is exact for operands, and does not see that the place begins a statement,
+        where `if a {} else {} + b` would be two; `rewrite` sees that. Both texts are parsed. ValueError if the text is not one expression,
+        if nothing with its range is one, or if its tree was read as a part of a file; ParseError as for `parse`.
 
         >>> a = next(parse("fn f() { a * b }").find("PATH_EXPR"))
         >>> a.needs_parens("x + y"), a.needs_parens("x.y")

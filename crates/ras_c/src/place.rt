@@ -59,6 +59,9 @@ fn needed_at(own: &SyntaxNode, root: &SyntaxNode, range: TextRange) -> Option<bo
 /// with exactly this range, in a text of an edition such as 2024. `answer` is 1 if it does, and 0
 /// if not. If several expressions have the range, the innermost is the place.
 ///
+/// The test is that of `needs_parens_in_place_of`, and exact for operands. It does not see that a
+/// place begins a statement, where `if a {} else {} + b` would be two; `ras_c_rewrite` sees that.
+///
 /// Returns [`OK`], [`NOT_UTF8`], [`TOO_LONG`], [`NO_MEMORY`], [`NO_EDITION`], [`NO_PLACE`] if no
 /// expression has the range, or [`NO_EXPR`] if `own` is not one expression. Both texts are parsed.
 #[unsafe(no_mangle)]
