@@ -1,3 +1,4 @@
 pub mod Wholes
 pub mod Tops
 pub mod Windows
+pub mod Reports
