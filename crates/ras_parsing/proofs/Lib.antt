@@ -15,3 +15,4 @@ pub mod OrderedInText
 pub mod Windows
 pub mod Steps
 pub mod Sinks
+pub mod Pushed
