@@ -1,8 +1,29 @@
 -- The innermost nodes around a token.
 use Rattle.std.proofs.Common.{◌≡◌, ℕ, zero, suc, ◌-◌, ◌<◌, ◌≤◌, Bool, true, false, ◌||◌, take, Option, Some, None, refl, ap, sym, ◌∙◌, arith}
 use Rattle.std.specs.List.{list_any}
-use Rattle.tree_model.specs.Cursor.{Cursor, parent_of, ancestors_from}
+use Rattle.syntax_kind.specs.declared.syntax_kind.SyntaxKind.{SyntaxKind}
+use Rattle.syntax_kind.specs.declared.syntax_kind.SyntaxKind.TheVariants.{Token}
+use Rattle.syntax_kind.specs.declared.syntax_kind.token_kind.TokenKind.TheVariants as token
+use Rattle.syntax_kind.specs.declared.syntax_kind.TheConstants.SyntaxKind.{IDENT}
+use Rattle.syntax_kind.specs.Kinds.{is_same_kind}
+use Rattle.syntax_kind.specs.KindLaws.{is_same_kind-equal}
+use Rattle.tree_model.specs.Tree.{text}
+use Rattle.tree_model.specs.Cursor.{Cursor, focus, parent_of, ancestors_from}
 use Rattle.tree_model.proofs.AncestorLemmas.{ancestors_from-step}
+use Rattle.ras_node.specs.Nodes.{kind_at, is_of_kind}
+use Rattle.rust_report.specs.Roles.{role_of_token, role_of_word, role_alone}
+
+-- an identifier
+pub word_alone : (c : Cursor) → is_of_kind IDENT c ≡ true → role_of_word (parent_of c) ≡ role_alone (kind_at c) c
+word_alone c h = sym (ap (λ k. role_alone k c) ((is_same_kind-equal (kind_at c) IDENT).0 h))
+
+other_role : (k : SyntaxKind) (c : Cursor) → is_same_kind k IDENT ≡ false → role_of_token k (text (focus c)) ≡ role_alone k c
+other_role (Token token.IDENT) c h = absurd (let no : true ≡ false = h in cc)
+other_role _ c h = refl
+
+-- every other token
+pub other_alone : (c : Cursor) → is_of_kind IDENT c ≡ false → role_of_token (kind_at c) (text (focus c)) ≡ role_alone (kind_at c) c
+other_alone c h = other_role (kind_at c) c h
 
 module _ (test : Cursor → Bool) where
   pub among_none : (n : ℕ) (next : Option Cursor) → next ≡ None → list_any test (take n (ancestors_from next)) ≡ false

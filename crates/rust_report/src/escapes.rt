@@ -14,7 +14,7 @@ use std::fmt::{Formatter, Write};
 /// Unsafe characters are control characters (U+0000 to U+001F, U+007F to U+009F) and those that
 /// turn the direction of a text (U+202A to U+202E, U+2066 to U+2069). The symbol of a control
 /// character below U+0080 is its picture, such as `␍`; that of each other one is `�`.
-#[derive(Clone, Copy, Debug)]
+#[derive(Clone, Copy)]
 pub enum Medium {
     /// A page of HTML: `&`, `<`, `>`, `"` and `'` are printed as character references, and unsafe
     /// characters other than tabs and line feeds as symbols.
@@ -36,7 +36,7 @@ pub enum Medium {
 }
 
 /// Prints a text so that a medium shows it as it is.
-#[derive(Clone, Copy, Debug)]
+#[derive(Clone, Copy)]
 pub struct Escaped<'a> {
     /// The text.
     pub text: &'a str,
@@ -60,7 +60,7 @@ impl<'a> fmt::Display for Escaped<'a> {
 /// Prints the name of a file as git does it in a patch: as it is, or, if it has a `"`, a `\` or an
 /// unsafe character, between double quotes with escapes such as `\n` and `\033`. So it is always
 /// one line.
-#[derive(Clone, Copy, Debug)]
+#[derive(Clone, Copy)]
 pub struct Quoted<'a> {
     /// The name.
     pub name: &'a str,
@@ -86,6 +86,16 @@ fn needs_quotes(c: char) -> bool
     ensures { result ≡ needs_quotes c }
 {
     c == '"' || c == '\\' || is_unsafe(c)
+}
+
+// Writes texts, one behind the other.
+fn write_texts<W: Write>(f: &mut Formatter<W>, texts: &[&str]) -> fmt::Result
+    ensures { WritesOnOk W.write_str_gives f.old result (flat_map (λ t. t.now) texts.now) f.new }
+{
+    for text in texts {
+        f.write_str(text)?;
+    }
+    Ok(())
 }
 
 // Whether a name is written between double quotes in a patch.
@@ -136,10 +146,15 @@ fn write_octals<W: Write>(f: &mut Formatter<W>, bytes: &[u8]) -> fmt::Result
 fn write_octal<W: Write>(f: &mut Formatter<W>, byte: u8) -> fmt::Result
     ensures { WritesOnOk W.write_str_gives f.old result (octal byte) f.new }
 {
-    f.write_str("\\")?;
-    f.write_str(octal_digit(byte / 64))?;
-    f.write_str(octal_digit(byte / 8 % 8))?;
-    f.write_str(octal_digit(byte % 8))
+    write_texts(
+        f,
+        &[
+            "\\",
+            octal_digit(byte / 64),
+            octal_digit(byte / 8 % 8),
+            octal_digit(byte % 8),
+        ],
+    )
 }
 
 fn octal_digit(number: u8) -> &'static str
@@ -194,19 +209,24 @@ fn write_percents<W: Write>(f: &mut Formatter<W>, bytes: &[u8]) -> fmt::Result
 fn write_percent<W: Write>(f: &mut Formatter<W>, byte: u8) -> fmt::Result
     ensures { WritesOnOk W.write_str_gives f.old result (percent byte) f.new }
 {
-    f.write_str("%")?;
-    f.write_str(hex_digit(u32::from(byte / 16)))?;
-    f.write_str(hex_digit(u32::from(byte % 16)))
+    let high = hex_digit(u32::from(byte / 16));
+    let low = hex_digit(u32::from(byte % 16));
+    write_texts(f, &["%", high, low])
 }
 
 fn write_unicode<W: Write>(f: &mut Formatter<W>, code: u32) -> fmt::Result
     ensures { WritesOnOk W.write_str_gives f.old result (unicode code) f.new }
 {
-    f.write_str("\\u")?;
-    f.write_str(hex_digit(code / 4096 % 16))?;
-    f.write_str(hex_digit(code / 256 % 16))?;
-    f.write_str(hex_digit(code / 16 % 16))?;
-    f.write_str(hex_digit(code % 16))
+    write_texts(
+        f,
+        &[
+            "\\u",
+            hex_digit(code / 4096 % 16),
+            hex_digit(code / 256 % 16),
+            hex_digit(code / 16 % 16),
+            hex_digit(code % 16),
+        ],
+    )
 }
 
 pub(crate) fn write_escaped<W: Write>(

@@ -1,5 +1,5 @@
 //! The items of a tree.
-ghost use Rattle.std.specs.Prelude.{◌≡◌, IfOk, map, length, drop, option_map};
+ghost use Rattle.std.specs.Prelude.{◌≡◌, ◌++◌, IfOk, OnOk, map, length, drop, option_map};
 ghost use Rattle.std.specs.List.{filter};
 ghost use Rattle.tree_model.specs.Cursor.{at_node, descendants_of, ancestors_of};
 ghost use Rattle.lossless_tree.specs.declared.cursor.element.NodeOrToken.TheVariants.{Node, Token};
@@ -210,6 +210,20 @@ fn row_of(depths: &[usize], root: &SyntaxNode, item: SyntaxNode) -> Row
     Row { item, name, depth }
 }
 
+// Adds the items of a tree to others.
+fn push_rows(depths: &[usize], root: &SyntaxNode, rows: &mut Vec<Row>) -> Result<(), AllocError>
+    requires { depths.now ≡ depths_of root.now.tree (size root.now.tree) }
+    ensures { OnOk result (rows.new.items ≡ rows.old.items
+        ++ map row_of (filter (has_kind_in is_listed) (filter at_node (descendants_of root.now)))) }
+{
+    for node in root.descendants() {
+        if is_listed(node.kind()) {
+            rows.push(row_of(depths, root, node))?;
+        }
+    }
+    Ok(())
+}
+
 /// The items of a tree in the order of the text, each before the items in it.
 ///
 /// Takes time and memory linear in the whole tree.
@@ -224,10 +238,6 @@ pub fn outline(alloc: Global, root: &SyntaxNode) -> Result<Vec<Row>, AllocError>
 {
     let depths = depths(alloc, root.table().as_ref())?;
     let mut rows = Vec::new(alloc);
-    for node in root.descendants() {
-        if is_listed(node.kind()) {
-            rows.push(row_of(depths.as_slice(), root, node))?;
-        }
-    }
+    push_rows(depths.as_slice(), root, &mut rows)?;
     Ok(rows)
 }

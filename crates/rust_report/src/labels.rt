@@ -1,5 +1,5 @@
 //! The labels of items, in one line.
-ghost use Rattle.std.specs.Prelude.{◌≡◌, IfOk, OnOk, string_bytes, map, [], false};
+ghost use Rattle.std.specs.Prelude.{◌≡◌, IfOk, OnOk, string_bytes, map, [], ◌∷◌, false};
 ghost use Rattle.tree_model.specs.Cursor.{children_of};
 ghost use Rattle.lossless_tree.specs.Element.{element_of};
 ghost use Rattle.lossless_tree.specs.declared.cursor.element.NodeOrToken.TheVariants.{Node};
@@ -9,6 +9,7 @@ use crate::items::{Row, Unheaded, label_of};
 use crate::texts::WIDEST;
 use lossless_tree::{NodeOrToken, SyntaxElement, SyntaxKind, SyntaxNode};
 use ras_node::KindSet;
+use ras_node::support::is_of_kind;
 use std::alloc::{AllocError, Global};
 
 // Whether a child of an `impl` is part of its label, or white space or a comment within it.
@@ -81,6 +82,18 @@ fn push_all(line: &mut String, gap: bool, element: &SyntaxElement) -> Result<boo
     }
 }
 
+// Appends the tokens of a child of an `impl`, if it is a part of its label.
+fn push_child(line: &mut String, gap: bool, child: &SyntaxElement) -> Result<bool, AllocError>
+    ensures { IfOk result (λ g. (string_bytes line.new, g)
+        ≡ with_children (string_bytes line.old, gap) (child.now ∷ [])) }
+{
+    if is_part(child.kind()) {
+        push_all(line, gap, child)
+    } else {
+        Ok(gap)
+    }
+}
+
 // The head of an `impl` in one line.
 fn head_line(alloc: Global, item: &SyntaxNode) -> Result<String, AllocError>
     ensures { IfOk result (λ line. string_bytes line
@@ -89,9 +102,7 @@ fn head_line(alloc: Global, item: &SyntaxNode) -> Result<String, AllocError>
     let mut line = String::new(alloc);
     let mut gap = false;
     for child in item.children_with_tokens() {
-        if is_part(child.kind()) {
-            gap = push_all(&mut line, gap, &child)?;
-        }
+        gap = push_child(&mut line, gap, &child)?;
     }
     Ok(line)
 }
@@ -119,8 +130,9 @@ fn own_line(alloc: Global, label: &Option<SyntaxElement>) -> Result<String, Allo
 pub fn label_line(alloc: Global, row: &Row) -> Result<String, AllocError>
     ensures { IfOk result (λ line. string_bytes line ≡ label_line row.now) }
 {
-    match row.item.kind() {
-        SyntaxKind::IMPL => head_line(alloc, &row.item),
-        _ => own_line(alloc, &label_of(row)),
+    if is_of_kind(&row.item, SyntaxKind::IMPL) {
+        head_line(alloc, &row.item)
+    } else {
+        own_line(alloc, &label_of(row))
     }
 }

@@ -1,14 +1,15 @@
 //! Roles of the tokens of Rust, for highlighting.
 ghost use Rattle.std.specs.Prelude.{◌≡◌};
-ghost use Rattle.syntax_kind.specs.declared.syntax_kind.TheConstants.SyntaxKind.{ATTR};
-ghost use Rattle.ras_node.specs.Nodes.{is_of_kind};
-ghost use Rattle.rust_report.specs.Roles.{begins_word, role_of_token, role_of_name, role_of_callee, role_of_path, role_of_use, role_of_word, in_attribute, role_of};
+ghost use Rattle.tree_model.specs.Cursor.{parent_of};
+ghost use Rattle.ras_node.specs.Nodes.{kind_at};
+ghost use Rattle.rust_report.specs.Roles.{begins_word, role_of_token, role_of_name, role_of_callee, role_of_path, role_of_use, role_of_word, role_alone, in_attribute, or_attribute, role_of};
 
 use lossless_tree::{SyntaxKind, SyntaxNode, SyntaxToken};
+use ras_node::support::{is_of_kind, is_token_of_kind};
 use rust_kinds::kinds::RENAME;
 
 /// The role of a token.
-#[derive(Clone, Copy, Debug, PartialEq, Eq)]
+#[derive(Clone, Copy)]
 pub enum Role {
     /// White space, punctuation, and every other name.
     Plain,
@@ -102,7 +103,7 @@ fn role_of_callee(around: Option<SyntaxNode>) -> Role
 {
     match around {
         Some(call) => {
-            if call.kind() == SyntaxKind::CALL_EXPR {
+            if is_of_kind(&call, SyntaxKind::CALL_EXPR) {
                 Role::Function
             } else {
                 Role::Plain
@@ -165,12 +166,6 @@ fn role_of_word(name: Option<SyntaxNode>) -> Role
     }
 }
 
-fn is_attribute(node: &SyntaxNode) -> bool
-    ensures { result ≡ is_of_kind ATTR node.now }
-{
-    node.kind() == SyntaxKind::ATTR
-}
-
 // Whether one of five nodes, this one and its ancestors, is an attribute. A name in the path of an
 // attribute is four nodes below it.
 fn in_attribute(parent: Option<SyntaxNode>) -> bool
@@ -182,7 +177,7 @@ fn in_attribute(parent: Option<SyntaxNode>) -> bool
         let Some(node) = next else {
             return false;
         };
-        if is_attribute(&node) {
+        if is_of_kind(&node, SyntaxKind::ATTR) {
             return true;
         }
         next = node.parent();
@@ -191,18 +186,32 @@ fn in_attribute(parent: Option<SyntaxNode>) -> bool
     false
 }
 
+// The role of a token by its kind, and of an identifier by the nodes around it.
+fn role_alone(token: &SyntaxToken) -> Role
+    ensures { result ≡ role_alone (kind_at token.now) token.now }
+{
+    if is_token_of_kind(token, SyntaxKind::IDENT) {
+        role_of_word(token.parent())
+    } else {
+        role_of_token(token.kind(), token.text())
+    }
+}
+
+// The role of a token, or `Attribute` if the token is plain or a part of a path, and in one.
+fn or_attribute(role: Role, token: &SyntaxToken) -> Role
+    ensures { result ≡ or_attribute role (in_attribute (parent_of token.now)) }
+{
+    match role {
+        Role::Plain | Role::Path if in_attribute(token.parent()) => Role::Attribute,
+        role => role,
+    }
+}
+
 /// The role of a token of a tree: by its kind, and for an identifier by the nodes around it. A
 /// token that is plain by this rule, or a part of a path, has the role `Attribute` if one of the
 /// five innermost nodes around it is an attribute.
 pub fn role_of(token: &SyntaxToken) -> Role
     ensures { result ≡ role_of token.now }
 {
-    let role = match token.kind() {
-        SyntaxKind::IDENT => role_of_word(token.parent()),
-        kind => role_of_token(kind, token.text()),
-    };
-    match role {
-        Role::Plain | Role::Path if in_attribute(token.parent()) => Role::Attribute,
-        role => role,
-    }
+    or_attribute(role_alone(token), token)
 }

@@ -7,10 +7,11 @@ ghost use Rattle.rust_report.specs.Differences.{IsNextTurn, past, levels, AreDif
 use lossless_tree::{
     NodeOrToken, PreorderWithTokens, SyntaxElement, SyntaxKind, SyntaxNode, TextSize, WalkEvent,
 };
+use ras_node::support::is_of_kind;
 use std::alloc::{AllocError, Global};
 
 /// Whether white space and comments are compared.
-#[derive(Clone, Copy, Debug, PartialEq, Eq)]
+#[derive(Clone, Copy)]
 pub enum Trivia {
     /// They are compared.
     Kept,
@@ -42,7 +43,7 @@ fn is_marked(marks: &[bool], offset: TextSize) -> bool
 pub fn is_pair(node: &SyntaxNode) -> bool
     ensures { result ≡ is_pair node.now }
 {
-    node.kind() == SyntaxKind::PAREN_EXPR || node.kind() == SyntaxKind::PAREN_PAT
+    is_of_kind(node, SyntaxKind::PAREN_EXPR) || is_of_kind(node, SyntaxKind::PAREN_PAT)
 }
 
 /// Whether marks, one for each byte of the text, leave out a node or token: a pair, by [`is_pair`],
@@ -237,6 +238,48 @@ fn skip(
     Ok(())
 }
 
+// Skips the ends behind a difference in both walks.
+fn skip_both(
+    olds: &mut PreorderWithTokens,
+    marks: &[bool],
+    news: &mut PreorderWithTokens,
+    trivia: Trivia,
+    difference: &Difference,
+) -> Result<(), AllocError>
+    ensures old { OnOk result (counted trivia marks.now olds.new
+        ≡ past (levels difference.now.old difference.now.new) (counted trivia marks.now olds.old)) }
+    ensures new { OnOk result (counted trivia [] news.new
+        ≡ past (levels difference.now.new difference.now.old) (counted trivia [] news.old)) }
+{
+    let old_levels = levels(&difference.old, &difference.new);
+    let new_levels = levels(&difference.new, &difference.old);
+    skip(olds, marks, trivia, old_levels)?;
+    skip(news, &[], trivia, new_levels)
+}
+
+// Adds the differences of the rest of two walks, as `differences` has them, to an empty list.
+fn push_differences(
+    olds: &mut PreorderWithTokens,
+    marks: &[bool],
+    news: &mut PreorderWithTokens,
+    trivia: Trivia,
+    limit: usize,
+    found: &mut Vec<Difference>,
+) -> Result<(), AllocError>
+    requires { found.old.items ≡ [] }
+    ensures { OnOk result (AreDifferences limit (counted trivia marks.now olds.old)
+        (counted trivia [] news.old) found.new.items) }
+{
+    while found.len() < limit {
+        let Some(difference) = next_difference(olds, marks, news, trivia) else {
+            return Ok(());
+        };
+        skip_both(olds, marks, news, trivia, &difference)?;
+        found.push(difference)?;
+    }
+    Ok(())
+}
+
 /// The first places where two trees differ, at most `limit`, in order; all of them if there are
 /// fewer. The first is that of [`first_difference`]. After a difference the walks continue: after
 /// both nodes or tokens if both walks enter one there; after the parents if one tree has further
@@ -263,23 +306,6 @@ pub fn differences(
     let mut olds = old.preorder_with_tokens();
     let mut news = new.preorder_with_tokens();
     let mut found = Vec::new(alloc);
-    while found.len() < limit {
-        let Some(difference) = next_difference(&mut olds, marks, &mut news, trivia) else {
-            return Ok(found);
-        };
-        skip(
-            &mut olds,
-            marks,
-            trivia,
-            levels(&difference.old, &difference.new),
-        )?;
-        skip(
-            &mut news,
-            &[],
-            trivia,
-            levels(&difference.new, &difference.old),
-        )?;
-        found.push(difference)?;
-    }
+    push_differences(&mut olds, marks, &mut news, trivia, limit, &mut found)?;
     Ok(found)
 }

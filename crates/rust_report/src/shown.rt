@@ -2,7 +2,7 @@
 ghost use Rattle.std.specs.Prelude.{◌≡◌, ◌≤◌, chars, replicate};
 ghost use Rattle.std.specs.List.{flat_map};
 ghost use Rattle.std.specs.Fmt.{WritesOnOk};
-ghost use Rattle.rust_report.specs.Shown.{ellipsis, columns_of, blanks_below, carets_below, shown_part, marks_below, ShowsRange, IsShort};
+ghost use Rattle.rust_report.specs.Shown.{ellipsis, columns_of, blanks_below, carets_below, carets, margin, shown_part, marks_below, ShowsRange, IsShort};
 
 use crate::escapes::{Medium, picture, write_escaped};
 use crate::texts::{Excerpt, excerpt_of, first_line, line_at};
@@ -32,7 +32,7 @@ impl<'a> fmt::Display for Excerpt<'a> {
 /// Prints the line below an [`Excerpt`] on a terminal: blanks below the text before the range, and
 /// a `^` below each column of the range, at least one for each character and for an empty range. A
 /// character is as wide as `unicode_width` says; a tab before the range stays a tab.
-#[derive(Clone, Copy, Debug)]
+#[derive(Clone, Copy)]
 pub struct Marks<'a> {
     /// The line above.
     pub excerpt: Excerpt<'a>,
@@ -45,15 +45,9 @@ impl<'a> fmt::Display for Marks<'a> {
     ghost output = { λ m. Some (marks_below m.excerpt) };
 
     fn fmt<W: Write>(&self, f: &mut Formatter<W>) -> fmt::Result {
-        if self.excerpt.is_cut_before {
-            f.write_str(" ")?;
-        }
+        f.write_str(margin(self.excerpt.is_cut_before))?;
         write_blanks(f, self.excerpt.before)?;
-        if self.excerpt.marked.is_empty() {
-            f.write_str("^")
-        } else {
-            write_carets(f, self.excerpt.marked)
-        }
+        write_marks(f, self.excerpt.marked)
     }
 }
 
@@ -62,6 +56,13 @@ fn ellipsis(is_cut: bool) -> &'static str
     ensures { result.now ≡ ellipsis is_cut }
 {
     if is_cut { "…" } else { "" }
+}
+
+// The blank below that sign.
+fn margin(is_cut: bool) -> &'static str
+    ensures { result.now ≡ margin is_cut }
+{
+    if is_cut { " " } else { "" }
 }
 
 // How many columns a character takes on a terminal; a tab counts as one.
@@ -133,6 +134,17 @@ fn write_carets<W: Write>(f: &mut Formatter<W>, text: &str) -> fmt::Result
         f.write_str(carets_below(c))?;
     }
     Ok(())
+}
+
+// A `^` below each column of a text, or one if it is empty.
+fn write_marks<W: Write>(f: &mut Formatter<W>, text: &str) -> fmt::Result
+    ensures { WritesOnOk W.write_str_gives f.old result (carets text.now) f.new }
+{
+    if text.is_empty() {
+        f.write_str("^")
+    } else {
+        write_carets(f, text)
+    }
 }
 
 /// The part of the line that a range starts in, around the range. An offset past the end of the

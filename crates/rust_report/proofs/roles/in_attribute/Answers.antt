@@ -7,13 +7,13 @@ use Rattle.rust_report.proofs.roles.in_attribute.Goals as goal
 pub returns-in_default : goal.returns-in_default
 returns-in_default c = sym (among_none (is_of_kind ATTR) c.loop-left.left c.loop-left.next c.in_default.is) ∙ c.loop-left.invariant
 
-pub returns-then-is_attribute : goal.returns-then-is_attribute
-returns-then-is_attribute c =
-    sym (among_first (is_of_kind ATTR) c.loop-left.left c.loop-left.next c.in-Some.node c.loop-left-test.true c.in-Some.is (sym c.is_attribute.ensures ∙ c.if-is_attribute.true)) ∙ c.loop-left.invariant
+pub returns-then-is_of_kind : goal.returns-then-is_of_kind
+returns-then-is_of_kind c =
+    sym (among_first (is_of_kind ATTR) c.loop-left.left c.loop-left.next c.in-Some.node c.loop-left-test.true c.in-Some.is (sym c.is_of_kind.ensures ∙ c.if-is_of_kind.true)) ∙ c.loop-left.invariant
 
 pub loop-left-preserved : goal.loop-left-preserved
 loop-left-preserved c =
-    among_others (is_of_kind ATTR) c.loop-left.left _ c.loop-left.next c.parent-next.result c.in-Some.node c.loop-left-test.true refl c.in-Some.is c.parent-next.ensures (sym c.is_attribute.ensures ∙ c.if-is_attribute.false)
+    among_others (is_of_kind ATTR) c.loop-left.left _ c.loop-left.next c.parent-next.result c.in-Some.node c.loop-left-test.true refl c.in-Some.is c.parent-next.ensures (sym c.is_of_kind.ensures ∙ c.if-is_of_kind.false)
     ∙ c.loop-left.invariant
 
 pub returns : goal.returns
