@@ -2,11 +2,12 @@
 ghost use Rattle.std.specs.Prelude.{◌≡◌};
 ghost use Rattle.tree_match.specs.Bare.{is_passed, past, is_token_of, is_node_there, is_node_of, is_pair, held, opens, closing, closes, bare, is_closing, ends_list, is_last_comma, without_comma, is_element, behind_one};
 
+use crate::kind::is_kind;
 use crate::run::Run;
 use lossless_tree::SyntaxKind;
 
 /// Whether comments are passed over, as white space is.
-#[derive(Clone, Copy, Debug, PartialEq, Eq, Drop)]
+#[derive(Clone, Copy, Drop)]
 pub enum Comments {
     Passed,
     Kept,
@@ -36,7 +37,7 @@ pub(crate) fn past<'t>(comments: Comments, left: &Run<'t>) -> Run<'t>
 pub(crate) fn is_token_of(kind: SyntaxKind, left: &Run<'_>) -> bool
     ensures { result ≡ is_token_of kind left.now.trees }
 {
-    left.is_token() && left.kind().to_raw() == kind.to_raw()
+    left.is_token() && is_kind(left.kind(), kind)
 }
 
 /// Whether the first of the siblings is a node.
@@ -64,7 +65,7 @@ fn closing<'t>(comments: Comments, left: &Run<'t>) -> Run<'t>
 fn is_node_of(kind: SyntaxKind, left: &Run<'_>) -> bool
     ensures { result ≡ is_node_of kind left.now.trees }
 {
-    is_node_there(left) && left.kind().to_raw() == kind.to_raw()
+    is_node_there(left) && is_kind(left.kind(), kind)
 }
 
 // Whether the first of the siblings begins as a pair of parentheses round a node.
@@ -107,11 +108,11 @@ pub(crate) fn bare<'t>(comments: Comments, left: &Run<'t>) -> Run<'t>
 fn is_closing(kind: SyntaxKind) -> bool
     ensures { result ≡ is_closing kind }
 {
-    kind == SyntaxKind::R_PAREN
-        || kind == SyntaxKind::R_BRACK
-        || kind == SyntaxKind::R_CURLY
-        || kind == SyntaxKind::R_ANGLE
-        || kind == SyntaxKind::PIPE
+    is_kind(kind, SyntaxKind::R_PAREN)
+        || is_kind(kind, SyntaxKind::R_BRACK)
+        || is_kind(kind, SyntaxKind::R_CURLY)
+        || is_kind(kind, SyntaxKind::R_ANGLE)
+        || is_kind(kind, SyntaxKind::PIPE)
 }
 
 // Whether nothing is left, or what closes a list is first.
@@ -145,7 +146,7 @@ pub(crate) fn without_comma<'t>(comments: Comments, left: &Run<'t>) -> Run<'t>
 fn is_element(left: &Run<'_>) -> bool
     ensures { result ≡ is_element left.now.trees }
 {
-    is_node_there(left) && left.kind().to_raw() != SyntaxKind::TOKEN_TREE.to_raw()
+    is_node_there(left) && !is_kind(left.kind(), SyntaxKind::TOKEN_TREE)
 }
 
 /// The siblings behind the first one, if that is an element of a list without a comma that ends the

@@ -108,36 +108,42 @@ impl<'a> Words<'a> {
     }
 
     // The placeholder that a node is, with what it can stand for.
-    fn hole_at(&self, kind: SyntaxKind, text: &str) -> Option<Part> {
+    fn hole_at(&self, kind: SyntaxKind, text: &str) -> Option<(usize, Sort)> {
         let sort = sort_of(kind)?;
         let number = number_in(text, self.prefix)?;
         if self.is_list(number) || matches!(self.only_words.get(number), Some(true)) {
             return None;
         }
-        Some(Part::Hole(number, sort))
+        Some((number, sort))
     }
 
     // The placeholder for a list that is next in a walk of the children of a node of a kind; passes
     // over it.
-    fn next_list(&self, walk: &mut Walk<'_>, parent: SyntaxKind) -> Option<Part> {
+    fn next_list(&self, walk: &mut Walk<'_>, parent: SyntaxKind) -> Option<usize> {
         let (_, text) = walk.peek()?;
-        match number_in(word_of(text), self.prefix) {
-            Some(number) if self.is_list(number) && has_list(parent) => {
-                walk.pass();
-                Some(Part::List(number, Comma::Nowhere, 0))
-            }
-            _ => None,
+        let number = number_in(word_of(text), self.prefix)?;
+        if !self.is_list(number) || !has_list(parent) {
+            return None;
         }
+        walk.pass();
+        Some(number)
     }
 
-    // The placeholder that is next in a walk; passes over it.
-    fn next_hole(&self, walk: &mut Walk<'_>) -> Option<Part> {
+    // The placeholder that is next in a walk, with what it can stand for; passes over it.
+    fn next_hole(&self, walk: &mut Walk<'_>) -> Option<(usize, Sort)> {
         let (kind, text) = walk.peek()?;
-        let hole = self.hole_at(kind, text);
-        if hole.is_some() {
-            walk.pass();
-        }
-        hole
+        let hole = self.hole_at(kind, text)?;
+        walk.pass();
+        Some(hole)
+    }
+
+    // The placeholder of a token behind some parts, if it is that of a name.
+    fn word_at(&self, before: Option<&Part>, text: &str) -> Option<usize> {
+        let Some(Part::Enter(SyntaxKind::NAME | SyntaxKind::NAME_REF)) = before else {
+            return None;
+        };
+        let number = number_in(text, self.prefix)?;
+        if self.is_list(number) { None } else { Some(number) }
     }
 
     // The part of a token behind some parts: a word if it is that of a name.
@@ -148,24 +154,20 @@ impl<'a> Words<'a> {
         kind: SyntaxKind,
         text: &str,
     ) -> Result<Part, AllocError> {
-        if let Some(Part::Enter(SyntaxKind::NAME | SyntaxKind::NAME_REF)) = before {
-            match number_in(text, self.prefix) {
-                Some(number) if !self.is_list(number) => {
-                    return Ok(Part::Hole(number, Sort::Word));
-                }
-                _ => {}
-            }
+        match self.word_at(before, text) {
+            Some(number) => Ok(Part::Hole(number, Sort::Word)),
+            None => Ok(Part::Token(kind, String::from_str(alloc, text)?)),
         }
-        Ok(Part::Token(kind, String::from_str(alloc, text)?))
     }
 
     // The placeholder that is next in a walk of the children of a node of a kind, one for a list or
     // another; passes over it.
     fn next_placeholder(&self, walk: &mut Walk<'_>, parent: SyntaxKind) -> Option<Part> {
-        match self.next_list(walk, parent) {
-            Some(list) => Some(list),
-            None => self.next_hole(walk),
+        if let Some(number) = self.next_list(walk, parent) {
+            return Some(Part::List(number, Comma::Nowhere, 0));
         }
+        let (number, sort) = self.next_hole(walk)?;
+        Some(Part::Hole(number, sort))
     }
 
     // The part of a step, in a node in others of some kinds, the innermost last; `None` at the end.
@@ -190,6 +192,20 @@ impl<'a> Words<'a> {
         }
     }
 
+    // The part that is next in a walk, behind some parts; passes over it. `None` at the end.
+    fn next_part(
+        &self,
+        alloc: Global,
+        walk: &mut Walk<'_>,
+        around: &mut Vec<SyntaxKind>,
+        before: Option<&Part>,
+    ) -> Result<Option<Part>, AllocError> {
+        match self.next_placeholder(walk, innermost(around)) {
+            Some(placeholder) => Ok(Some(placeholder)),
+            None => self.part_of(alloc, walk.next()?, around, before),
+        }
+    }
+
     // Adds the part that is next in a walk, and passes over it. Returns false at the end.
     fn push_next(
         &self,
@@ -198,11 +214,7 @@ impl<'a> Words<'a> {
         around: &mut Vec<SyntaxKind>,
         parts: &mut Vec<Part>,
     ) -> Result<bool, AllocError> {
-        let next = match self.next_placeholder(walk, innermost(around)) {
-            Some(placeholder) => Some(placeholder),
-            None => self.part_of(alloc, walk.next()?, around, parts.last())?,
-        };
-        match next {
+        match self.next_part(alloc, walk, around, parts.last())? {
             Some(part) => {
                 parts.push(part)?;
                 Ok(true)
@@ -241,56 +253,84 @@ impl<'a> Words<'a> {
         self.push_all(alloc, &mut walk, &mut around, parts)
     }
 
-    // The parts of a node, itself included.
-    fn parts_of(&self, alloc: Global, node: &SyntaxNode) -> Result<Vec<Part>, AllocError> {
-        let mut parts = Vec::new(alloc);
-        if let Some(hole) = self.hole_at(node.kind(), node.as_str()) {
-            parts.push(hole)?;
-            return Ok(parts);
+    // Adds the parts of a node, itself included.
+    fn push_node(
+        &self,
+        alloc: Global,
+        node: &SyntaxNode,
+        parts: &mut Vec<Part>,
+    ) -> Result<(), AllocError> {
+        if let Some((number, sort)) = self.hole_at(node.kind(), node.as_str()) {
+            parts.push(Part::Hole(number, sort))?;
+            return Ok(());
         }
         parts.push(Part::Enter(node.kind()))?;
+        self.push_inside(alloc, node, parts)
+    }
+
+    // The parts of a pattern's node, without itself.
+    fn pattern_parts(&self, alloc: Global, node: &SyntaxNode) -> Result<Vec<Part>, RuleRefusal> {
+        let mut parts = Vec::new(alloc);
         self.push_inside(alloc, node, &mut parts)?;
+        fit_lists(alloc, &mut parts)?;
         Ok(parts)
     }
 
-    // The parts of a pattern and of its template; none if it has none.
+    // The parts of a template's node; none if there is none.
+    fn template_parts(
+        &self,
+        alloc: Global,
+        node: Option<&SyntaxNode>,
+    ) -> Result<Vec<Part>, RuleRefusal> {
+        let mut parts = Vec::new(alloc);
+        if let Some(node) = node {
+            self.push_node(alloc, node, &mut parts)?;
+            fit_lists(alloc, &mut parts)?;
+        }
+        Ok(parts)
+    }
+
+    // The parts of a pattern and of its template.
     fn compiled(
         &self,
         alloc: Global,
         pattern: &SyntaxNode,
         template: Option<&SyntaxNode>,
     ) -> Result<Compiled, RuleRefusal> {
-        let mut inside = Vec::new(alloc);
-        self.push_inside(alloc, pattern, &mut inside)?;
-        let template = match template {
-            Some(node) => self.parts_of(alloc, node)?,
-            None => Vec::new(alloc),
-        };
-        Ok(Compiled {
-            inside: fit_lists(alloc, inside)?,
-            template: fit_lists(alloc, template)?,
-        })
+        let inside = self.pattern_parts(alloc, pattern)?;
+        let template = self.template_parts(alloc, template)?;
+        Ok(Compiled { inside, template })
     }
 }
 
+// Notes the sort of a placeholder in a part; marks it if it stood for another one before.
+fn mark_word(number: usize, sort: Sort, sorts: &mut [Option<Sort>], only_words: &mut [bool]) {
+    let (Some(known), Some(mark)) = (sorts.get_mut(number), only_words.get_mut(number)) else {
+        return;
+    };
+    match known {
+        Some(other) if *other != sort => *mark = true,
+        _ => {}
+    }
+    *known = Some(sort);
+}
+
 // Marks the placeholders that stand for one sort in a part and for another one in an earlier part.
-fn mark_words(parts: &[Part], sorts: &mut Vec<Option<Sort>>, only_words: &mut Vec<bool>) -> bool {
-    let mut is_any = false;
+fn mark_words(parts: &[Part], sorts: &mut [Option<Sort>], only_words: &mut [bool]) {
     for part in parts {
-        let Part::Hole(number, sort) = part else {
-            continue;
-        };
-        if let Some(known) = sorts.get_mut(*number) {
-            if known.is_some_and(|other| other != *sort) {
-                if let Some(mark) = only_words.get_mut(*number) {
-                    *mark = true;
-                    is_any = true;
-                }
-            }
-            *known = Some(*sort);
+        if let Part::Hole(number, sort) = part {
+            mark_word(*number, *sort, sorts, only_words);
         }
     }
-    is_any
+}
+
+// Of so many placeholders, marks those that stand for one sort here and for another one there.
+fn only_words(alloc: Global, count: usize, parts: &Compiled) -> Result<Vec<bool>, AllocError> {
+    let mut sorts = vec![in alloc; None; count]?;
+    let mut marks = vec![in alloc; false; count]?;
+    mark_words(&parts.inside, &mut sorts, &mut marks);
+    mark_words(&parts.template, &mut sorts, &mut marks);
+    Ok(marks)
 }
 
 /// The parts of a pattern and of its template, in which words of the prefix and the number of a
@@ -303,17 +343,14 @@ pub(crate) fn compile(
     pattern: &SyntaxNode,
     template: Option<&SyntaxNode>,
 ) -> Result<Compiled, RuleRefusal> {
-    let mut only_words = vec![in alloc; false; holes.len()]?;
-    let mut sorts = vec![in alloc; None; holes.len()]?;
     let first = Words {
         prefix,
         holes,
         only_words: &[],
     }
     .compiled(alloc, pattern, template)?;
-    let in_pattern = mark_words(&first.inside, &mut sorts, &mut only_words);
-    let in_template = mark_words(&first.template, &mut sorts, &mut only_words);
-    if !in_pattern && !in_template {
+    let only_words = only_words(alloc, holes.len(), &first)?;
+    if !only_words.contains(&true) {
         return Ok(first);
     }
     Words {

@@ -20,22 +20,30 @@ fn comma_at(parts: &[Part], index: usize) -> Comma {
     }
 }
 
+// How many nodes start at a part: one or none.
+fn nodes_at(part: &Part) -> usize {
+    match part {
+        Part::Enter(_) => 1,
+        Part::Hole(_, sort) if *sort != Sort::Word => 1,
+        _ => 0,
+    }
+}
+
 // How many nodes there are behind an index on its level; or the placeholder of another list there.
 fn nodes_behind(parts: &[Part], index: usize) -> Result<usize, usize> {
     let mut depth = 0usize;
     let mut count = 0usize;
     for part in parts.iter().skip(index.saturating_add(1)) {
+        if depth == 0 {
+            match part {
+                Part::Leave => break,
+                Part::List(number, ..) => return Err(*number),
+                _ => count = count.saturating_add(nodes_at(part)),
+            }
+        }
         match part {
-            Part::Leave if depth == 0 => break,
+            Part::Enter(_) => depth = depth.saturating_add(1),
             Part::Leave => depth = depth.saturating_sub(1),
-            Part::List(number, ..) if depth == 0 => return Err(*number),
-            Part::Enter(_) => {
-                count = count.saturating_add(if depth == 0 { 1 } else { 0 });
-                depth = depth.saturating_add(1);
-            }
-            Part::Hole(_, sort) if depth == 0 && *sort != Sort::Word => {
-                count = count.saturating_add(1);
-            }
             _ => {}
         }
     }
@@ -75,46 +83,56 @@ fn fitted_at(
     }
 }
 
-// Gives the lists among some parts their commas, which it marks, and the nodes behind them.
-fn fit_each(alloc: Global, parts: &mut Vec<Part>, is_gone: &mut [bool]) -> Result<(), RuleRefusal> {
-    let mut seen = Vec::new(alloc);
-    for index in 0..parts.len() {
-        let Some(Part::List(number, ..)) = parts.get(index) else {
-            continue;
-        };
-        let number = *number;
-        if seen.contains(&number) {
-            return Err(RuleRefusal::Twice(number));
+// Whether the list with a number is before an index.
+fn is_before(parts: &[Part], index: usize, number: usize) -> bool {
+    for part in parts.iter().take(index) {
+        match part {
+            Part::List(other, ..) if *other == number => return true,
+            _ => {}
         }
-        seen.push(number).map_err(AllocError::from)?;
-        let list = fitted_at(parts, index, number, is_gone)?;
-        if let Some(part) = parts.get_mut(index) {
-            *part = list;
-        }
+    }
+    false
+}
+
+// Gives the list at an index, if one is there, its comma, which it marks, and the nodes behind it.
+fn fit_at(parts: &mut [Part], index: usize, is_gone: &mut [bool]) -> Result<(), RuleRefusal> {
+    let Some(Part::List(number, ..)) = parts.get(index) else {
+        return Ok(());
+    };
+    let number = *number;
+    if is_before(parts, index, number) {
+        return Err(RuleRefusal::Twice(number));
+    }
+    let list = fitted_at(parts, index, number, is_gone)?;
+    if let Some(part) = parts.get_mut(index) {
+        *part = list;
     }
     Ok(())
 }
 
-// The parts but for those that are marked.
-fn unmarked(alloc: Global, parts: Vec<Part>, is_gone: &[bool]) -> Result<Vec<Part>, AllocError> {
-    let mut out = Vec::with_capacity(alloc, parts.len())?;
-    let mut marks = is_gone.iter();
-    for part in parts {
-        if !matches!(marks.next(), Some(true)) {
-            out.push(part)?;
-        }
+// Gives the lists among some parts their commas, which it marks, and the nodes behind them.
+fn fit_each(parts: &mut [Part], is_gone: &mut [bool]) -> Result<(), RuleRefusal> {
+    for index in 0..parts.len() {
+        fit_at(parts, index, is_gone)?;
     }
-    Ok(out)
+    Ok(())
 }
 
-/// The parts, in which each list has its comma, and knows how many nodes are behind it. Takes time
-/// for each list that is linear in the parts.
+// Drops the parts that are marked.
+fn drop_marked(parts: &mut Vec<Part>, is_gone: &[bool]) {
+    let mut marks = is_gone.iter();
+    parts.retain(|_| !matches!(marks.next(), Some(true)));
+}
+
+/// Gives each list among some parts its comma, and how many nodes are behind it. Takes time for
+/// each list that is linear in the parts.
 ///
 /// # Errors
 ///
 /// `Twice` if a list comes twice or two are on one level; `Memory`.
-pub(crate) fn fit_lists(alloc: Global, mut parts: Vec<Part>) -> Result<Vec<Part>, RuleRefusal> {
+pub(crate) fn fit_lists(alloc: Global, parts: &mut Vec<Part>) -> Result<(), RuleRefusal> {
     let mut is_gone = vec![in alloc; false; parts.len()]?;
-    fit_each(alloc, &mut parts, &mut is_gone)?;
-    Ok(unmarked(alloc, parts, &is_gone)?)
+    fit_each(parts, &mut is_gone)?;
+    drop_marked(parts, &is_gone);
+    Ok(())
 }

@@ -4,6 +4,7 @@ ghost use Rattle.tree_match.specs.Walks.{step_of};
 ghost use Rattle.tree_match.specs.Signs.{fits, word_part};
 ghost use Rattle.tree_match.specs.Leads.{is_leading, lead_here, lead_of, lead_in};
 
+use crate::kind::is_kind;
 use crate::part::Part;
 use crate::run::Run;
 use crate::sign::word_part;
@@ -14,7 +15,7 @@ use lossless_tree::SyntaxKind;
 fn is_leading(left: &Run<'_>) -> bool
     ensures { result ≡ is_leading left.now.trees }
 {
-    !left.is_done() && !left.is_token() && left.kind() != SyntaxKind::PAREN_EXPR
+    !left.is_done() && !left.is_token() && !is_kind(left.kind(), SyntaxKind::PAREN_EXPR)
 }
 
 // The first of some siblings, if it is a token that counts.

@@ -7,6 +7,7 @@ mod compile;
 mod condition;
 mod fit;
 mod jump;
+mod kind;
 mod lead;
 mod list;
 mod matching;

@@ -5,6 +5,7 @@ ghost use Rattle.tree_match.specs.Runs.{behind_run};
 ghost use Rattle.tree_match.specs.Lists.{has_more, is_listed, extent, behind_comma, opened, closed, list_at};
 
 use crate::bare::{Comments, is_token_of, past, without_comma};
+use crate::kind::is_kind;
 use crate::part::Comma;
 use crate::run::Run;
 use lossless_tree::SyntaxKind;
@@ -33,7 +34,7 @@ fn is_listed(left: &Run<'_>) -> bool
     ensures { result ≡ is_listed (first_of left.now.trees) }
 {
     let kind = left.kind();
-    !left.is_token() || kind.is_trivia() || kind == SyntaxKind::COMMA
+    !left.is_token() || kind.is_trivia() || is_kind(kind, SyntaxKind::COMMA)
 }
 
 // How many siblings there are up to the last node but so many; `None` if something else is between

@@ -2,6 +2,7 @@
 ghost use Rattle.std.specs.Prelude.{◌≡◌};
 ghost use Rattle.tree_match.specs.Walks.{is_word, sort_has};
 
+use crate::kind::is_kind;
 use lossless_tree::SyntaxKind;
 use ras_node::sets::{Exprs, KindSet, Pats, Types};
 
@@ -23,7 +24,7 @@ pub enum Sort {
 }
 
 /// Where the comma is that goes with a list: a list without elements has none.
-#[derive(Clone, Copy, Debug, PartialEq, Eq, Drop)]
+#[derive(Clone, Copy, Drop)]
 pub enum Comma {
     Nowhere,
     Before,
@@ -34,12 +35,12 @@ pub enum Comma {
 fn is_word(kind: SyntaxKind) -> bool
     ensures { result ≡ is_word kind }
 {
-    kind == SyntaxKind::IDENT
-        || kind == SyntaxKind::INT_NUMBER
-        || kind == SyntaxKind::SELF_KW
-        || kind == SyntaxKind::SELF_TYPE_KW
-        || kind == SyntaxKind::SUPER_KW
-        || kind == SyntaxKind::CRATE_KW
+    is_kind(kind, SyntaxKind::IDENT)
+        || is_kind(kind, SyntaxKind::INT_NUMBER)
+        || is_kind(kind, SyntaxKind::SELF_KW)
+        || is_kind(kind, SyntaxKind::SELF_TYPE_KW)
+        || is_kind(kind, SyntaxKind::SUPER_KW)
+        || is_kind(kind, SyntaxKind::CRATE_KW)
 }
 
 impl Sort {
@@ -51,7 +52,7 @@ impl Sort {
             Sort::Expr => Exprs::has(kind),
             Sort::Ty => Types::has(kind),
             Sort::Pat => Pats::has(kind),
-            Sort::Path => kind == SyntaxKind::PATH,
+            Sort::Path => is_kind(kind, SyntaxKind::PATH),
             Sort::Word => is_word(kind),
             Sort::List => false,
         }

@@ -4,6 +4,7 @@ ghost use Rattle.lossless_tree.specs.Trees.{first_of};
 ghost use Rattle.tree_match.specs.Walks.{step_of};
 ghost use Rattle.tree_match.specs.Signs.{is_plain, word_of, is_sign, sign_here, sign_of, word_part, word_in, is_word_sort, depth_behind, is_told, told, sign_in, fits};
 
+use crate::kind::is_kind;
 use crate::part::{Part, Sort};
 use crate::run::Run;
 use crate::walk::{Seen, is_part};
@@ -13,7 +14,7 @@ use lossless_tree::SyntaxKind;
 fn is_plain(kind: SyntaxKind) -> bool
     ensures { result ≡ is_plain kind }
 {
-    kind.is_trivia() || kind == SyntaxKind::COMMA || kind == SyntaxKind::DOT
+    kind.is_trivia() || is_kind(kind, SyntaxKind::COMMA) || is_kind(kind, SyntaxKind::DOT)
 }
 
 // The first of some siblings that is no white space or comment, if it is a token.
@@ -39,7 +40,7 @@ fn is_sign(left: &Run<'_>) -> bool
     if left.is_token() {
         !is_plain(kind)
     } else {
-        kind == SyntaxKind::PAREN_EXPR || kind == SyntaxKind::NAME_REF
+        is_kind(kind, SyntaxKind::PAREN_EXPR) || is_kind(kind, SyntaxKind::NAME_REF)
     }
 }
 
@@ -50,7 +51,7 @@ fn sign_here<'t>(left: &Run<'t>) -> Seen<'t>
     let kind = left.kind();
     if left.is_token() {
         Seen::Token(kind, left.text())
-    } else if kind == SyntaxKind::NAME_REF {
+    } else if is_kind(kind, SyntaxKind::NAME_REF) {
         word_of(&left.inside())
     } else {
         Seen::End
@@ -119,7 +120,7 @@ fn is_told(part: &Part) -> bool
     ensures { result ≡ is_told part.now }
 {
     match part {
-        Part::Enter(kind) => *kind == SyntaxKind::NAME_REF,
+        Part::Enter(kind) => is_kind(*kind, SyntaxKind::NAME_REF),
         Part::Token(kind, _) => !is_plain(*kind),
         Part::Hole(_, sort) => is_word_sort(*sort),
         Part::Leave | Part::List(..) => true,

@@ -1,5 +1,8 @@
 //! Walks of trees without what does not count.
-ghost use Rattle.std.specs.Prelude.{◌≡◌, ◌∷◌, [], IfOk, option_map};
+ghost use Rattle.std.specs.Prelude.{◌≡◌, ◌∷◌, [], IfOk, OnOk, option_map};
+ghost use Rattle.tree_model.specs.Tree.{kind_of};
+ghost use Rattle.lossless_tree.specs.Trees.{first_of, inside_first};
+ghost use Rattle.tree_match.specs.Bare.{bare, behind_one};
 ghost use Rattle.tree_match.specs.Walks.{levels_of, advance, is_there, taken, step_of, is_part};
 ghost use Rattle.tree_match.specs.Lists.{taken_list};
 
@@ -69,6 +72,21 @@ impl<'t> Walk<'t> {
         }
     }
 
+    // Enters the first of some siblings, a node.
+    fn enter(&mut self, here: &Run<'t>) -> Result<SyntaxKind, AllocError>
+        ensures kind { IfOk result (λ k. k
+            ≡ kind_of (first_of (bare self.old.comments here.now).trees)) }
+        ensures levels { OnOk result (levels_of self.new
+            ≡ inside_first (bare self.old.comments here.now)
+            ∷ (behind_one self.old.comments here.now ∷ self.old.around.items)) }
+        ensures same { self.new.comments ≡ self.old.comments }
+    {
+        let inner = bare(self.comments, here);
+        self.around.push_front(behind_one(self.comments, here))?;
+        self.level = Some(inner.inside());
+        Ok(inner.kind())
+    }
+
     /// The next step.
     pub(crate) fn next(&mut self) -> Result<Seen<'t>, AllocError>
         ensures step { IfOk result (λ s. (step_of s, levels_of self.new)
@@ -87,10 +105,7 @@ impl<'t> Walk<'t> {
             self.level = Some(here.rest());
             return Ok(Seen::Token(here.kind(), here.text()));
         }
-        let inner = bare(self.comments, &here);
-        self.around.push_front(behind_one(self.comments, &here))?;
-        self.level = Some(inner.inside());
-        Ok(Seen::Enter(inner.kind()))
+        Ok(Seen::Enter(self.enter(&here)?))
     }
 
     /// The kind and the text of the next node without the pairs round it; `None` if no node is
