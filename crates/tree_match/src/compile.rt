@@ -143,7 +143,11 @@ impl<'a> Words<'a> {
             return None;
         };
         let number = number_in(text, self.prefix)?;
-        if self.is_list(number) { None } else { Some(number) }
+        if self.is_list(number) {
+            None
+        } else {
+            Some(number)
+        }
     }
 
     // The part of a token behind some parts: a word if it is that of a name.

@@ -2,7 +2,7 @@
 ghost use Rattle.std.specs.Prelude.{◌≡◌, IfOk, OnOk, if◌then◌else◌, Some, None, option_map, replicate, length, slice_get};
 ghost use Rattle.tree_match.specs.Walks.{levels_of, step_of};
 ghost use Rattle.tree_match.specs.Signs.{sign_of};
-ghost use Rattle.tree_match.specs.Matching.{put, put_held, put_new, match_part, match_parts, match_form, first_form, is_for, match_rule, match_template, match_numbered, first_rule, first_among, found_of};
+ghost use Rattle.tree_match.specs.Matching.{put, put_held, put_new, match_part, match_parts, match_form, is_for, match_rule, match_template, match_numbered, first_rule, first_among, found_of};
 
 use crate::bare::Comments;
 use crate::condition::{Hole, admits};
@@ -195,33 +195,24 @@ fn match_form<'t>(
     )
 }
 
-// The first of some forms whose pattern a node is. Notes what stands for the placeholders.
+// The first form of a rule whose pattern a node is. Notes what stands for the placeholders.
 fn first_form<'t>(
     alloc: Global,
     walk: &mut Walk<'t>,
     values: &mut Values<'t>,
-    holes: &[Hole],
-    forms: &[Form],
+    rule: &Rule,
     kind: SyntaxKind,
     sign: Seen<'t>,
     inside: &Run<'t>,
 ) -> Result<Option<usize>, AllocError>
     requires sign { step_of sign ≡ sign_of inside.now.trees }
     ensures { IfOk result (λ o. option_map (λ f. (f, values.new.items)) o
-        ≡ first_form holes.now forms.now kind inside.now) }
+        ≡ match_rule rule.now kind inside.now) }
 {
     let mut number = 0usize;
-    while number < forms.len() {
-        if match_form(
-            alloc,
-            walk,
-            values,
-            holes,
-            &forms[number],
-            kind,
-            sign,
-            inside,
-        )? {
+    while number < rule.forms.len() {
+        let form = &rule.forms[number];
+        if match_form(alloc, walk, values, &rule.holes, form, kind, sign, inside)? {
             return Ok(Some(number));
         }
         number += 1;
@@ -236,32 +227,6 @@ pub(crate) fn is_for(kind: SyntaxKind, rule: &Rule) -> bool
     rule.forms
         .iter()
         .any(|form| form.kind.to_raw() == kind.to_raw())
-}
-
-// The first form of a rule whose pattern a node is. Notes what stands for the placeholders.
-fn match_forms<'t>(
-    alloc: Global,
-    walk: &mut Walk<'t>,
-    values: &mut Values<'t>,
-    rule: &Rule,
-    kind: SyntaxKind,
-    sign: Seen<'t>,
-    inside: &Run<'t>,
-) -> Result<Option<usize>, AllocError>
-    requires sign { step_of sign ≡ sign_of inside.now.trees }
-    ensures { IfOk result (λ o. option_map (λ f. (f, values.new.items)) o
-        ≡ match_rule rule.now kind inside.now) }
-{
-    first_form(
-        alloc,
-        walk,
-        values,
-        &rule.holes,
-        &rule.forms,
-        kind,
-        sign,
-        inside,
-    )
 }
 
 // The same, where most rules have no form for most nodes.
@@ -282,7 +247,7 @@ fn match_rule<'t>(
     if !is_for(kind, rule) {
         return Ok(None);
     }
-    match_forms(alloc, walk, values, rule, kind, sign, inside)
+    first_form(alloc, walk, values, rule, kind, sign, inside)
 }
 
 /// The rule with a number.
@@ -310,7 +275,7 @@ fn match_numbered<'t>(
 {
     match numbered(rules, number) {
         None => Ok(None),
-        Some(rule) => match_forms(alloc, walk, values, rule, kind, sign, inside),
+        Some(rule) => first_form(alloc, walk, values, rule, kind, sign, inside),
     }
 }
 

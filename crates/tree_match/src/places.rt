@@ -1,10 +1,13 @@
 //! The places of a tree where rules match.
 ghost use Rattle.std.specs.Prelude.{◌≡◌, ◌∷◌, [], ◌++◌, IfOk, OnOk, map, option_map};
+ghost use Rattle.std.specs.Option.{option_and_then};
+ghost use Rattle.tree_model.specs.Cursor.{range_of};
+ghost use Rattle.tree_match.specs.Runs.{run_range};
 ghost use Rattle.tree_match.specs.Roots.{AreRoots};
 ghost use Rattle.tree_match.specs.Finds.{occurrence_of, ranges_of, node_range, nodes_of, match_at, drop_behind, is_free, with_some, behind, take_out, found_at, free_behind, with_found, found_in};
 
 use crate::jump::{have_operations, next_stop};
-use crate::matching::first_among;
+use crate::matching::{Found, first_among};
 use crate::roots::{Root, roots_of, rules_for};
 use crate::rule::Rule;
 use crate::run::Run;
@@ -29,6 +32,16 @@ pub struct Match {
     pub(crate) nodes: Vec<Option<TextRange>>,
 }
 
+// The range of a value, if there is one.
+fn range_of(value: &Option<Run<'_>>) -> Option<TextRange>
+    ensures { result ≡ option_map run_range value.now }
+{
+    match value {
+        Some(run) => Some(run.range()),
+        None => None,
+    }
+}
+
 fn ranges_of(
     alloc: Global,
     values: &[Option<Run<'_>>],
@@ -37,18 +50,18 @@ fn ranges_of(
 {
     let mut ranges = Vec::with_capacity(alloc, values.len())?;
     for value in values {
-        match value {
-            Some(run) => ranges.push(Some(run.range()))?,
-            None => ranges.push(None)?,
-        }
+        ranges.push(range_of(value))?;
     }
     Ok(ranges)
 }
 
-// The range of a run of siblings, if the first is no token.
-fn node_range(run: &Run<'_>) -> Option<TextRange>
-    ensures { result ≡ node_range run.now }
+// The range of a value, if there is one and it is no token.
+fn node_range(value: &Option<Run<'_>>) -> Option<TextRange>
+    ensures { result ≡ option_and_then node_range value.now }
 {
+    let Some(run) = value else {
+        return None;
+    };
     if run.is_token() {
         None
     } else {
@@ -62,12 +75,29 @@ fn nodes_of(alloc: Global, values: &[Option<Run<'_>>]) -> Result<Vec<Option<Text
 {
     let mut ranges = Vec::with_capacity(alloc, values.len())?;
     for value in values {
-        match value {
-            Some(run) => ranges.push(node_range(run))?,
-            None => ranges.push(None)?,
-        }
+        ranges.push(node_range(value))?;
     }
     Ok(ranges)
+}
+
+// The match at a node of a rule that matches there.
+fn match_of(alloc: Global, found: &Found<'_>, node: &SyntaxNode) -> Result<Match, AllocError>
+    ensures { IfOk result (λ m. occurrence_of m
+        ≡ record {
+          rule = found.now.rule;
+          form = found.now.form;
+          range = range_of node.now;
+          values = ranges_of found.now.values.items;
+          nodes = nodes_of found.now.values.items;
+        }) }
+{
+    Ok(Match {
+        rule: found.rule,
+        form: found.form,
+        range: node.text_range(),
+        values: ranges_of(alloc, &found.values)?,
+        nodes: nodes_of(alloc, &found.values)?,
+    })
 }
 
 // The match of the first rule that matches a node. Only the rules for its kind are tried.
@@ -86,16 +116,10 @@ fn match_at(
         return Ok(None);
     }
     let inside = Run::of(node.trees());
-    let Some(found) = first_among(alloc, rules, numbers, node.kind(), &inside)? else {
-        return Ok(None);
-    };
-    Ok(Some(Match {
-        rule: found.rule,
-        form: found.form,
-        range: node.text_range(),
-        values: ranges_of(alloc, &found.values)?,
-        nodes: nodes_of(alloc, &found.values)?,
-    }))
+    match first_among(alloc, rules, numbers, node.kind(), &inside)? {
+        None => Ok(None),
+        Some(found) => Ok(Some(match_of(alloc, &found, node)?)),
+    }
 }
 
 // Drops the ranges that end where a node starts, or before.

@@ -32,7 +32,6 @@ fn is_end(step: Seen<'_>) -> bool
 
 // Compares the next steps of two walks. Returns whether all steps are the same, as soon as that is
 // known.
-#[tactic(auto, using(crate::proofs::StepLemmas::differ, crate::proofs::StepLemmas::ended, crate::proofs::StepLemmas::goes_on))]
 fn compare_next(first: &mut Walk<'_>, second: &mut Walk<'_>) -> Result<Option<bool>, AllocError>
     requires first { first.old.comments ≡ Passed }
     requires second { second.old.comments ≡ Passed }

@@ -1,6 +1,7 @@
-use Rattle.std.proofs.Common.{◌+◌, ◌∙◌, drop, sym, ap}
+use Rattle.std.proofs.Common.{◌+◌, ◌∙◌, drop, sym, ap, arith}
 use Rattle.std.specs.Prelude.{option_map}
-use Rattle.tree_match.proofs.PlaceLemmas.{drop_got}
+use Rattle.tree_match.proofs.PlaceLemmas.{drop_got, drop_none}
+use Rattle.tree_match.specs.Matching.{first_among}
 use Rattle.tree_match.proofs.AmongLemmas.{found_among, next_among}
 use Rattle.tree_match.proofs.matching.first_among.Goals as goal
 
@@ -23,3 +24,10 @@ loop-number-preserved c =
     (sym (ap (option_map (λ f. (f, c.match_numbered.new.values.items))) c.in_default.is)
     ∙ c.in_ok-tried.ensures)
     c.loop-number.invariant
+
+pub returns : goal.returns
+returns c =
+    ap (λ ns. first_among c.args.rules.now ns c.args.kind c.args.inside.now)
+    (sym (drop_none c.args.numbers.now c.loop-number.number-index
+    (omega (arith, c.loop-number-test.false))))
+    ∙ c.loop-number.invariant

@@ -1,7 +1,8 @@
 use Rattle.std.proofs.Common.{◌∙◌, sym, ap, arith}
 use Rattle.std.specs.Prelude.{option_map}
+use Rattle.tree_match.specs.Matching.{first_from}
 use Rattle.tree_match.proofs.AmongLemmas.{found_rule}
-use Rattle.tree_match.proofs.PlaceLemmas.{drop_item}
+use Rattle.tree_match.proofs.PlaceLemmas.{drop_item, drop_none}
 use Rattle.tree_match.proofs.SignLemmas.{next_rule}
 use Rattle.tree_match.proofs.matching.first_rule.Goals as goal
 
@@ -23,3 +24,10 @@ returns-in-Some c =
     (sym (ap (option_map (λ f. (f, c.match_rule.new.values.items))) c.in-Some.is)
     ∙ c.in_ok-form.ensures)
     c.loop-number.invariant.0
+
+pub returns : goal.returns
+returns c =
+    ap (λ rs. first_from c.loop-number.number rs c.args.kind c.args.inside.now)
+    (sym (drop_none c.args.rules.now c.loop-number.number
+    (omega (arith, c.loop-number-test.false))))
+    ∙ c.loop-number.invariant.0
