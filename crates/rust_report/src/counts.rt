@@ -5,7 +5,7 @@ ghost use Rattle.rust_report.specs.Counts.{counts_of, noun_for};
 use lossless_tree::{NodeOrToken, SyntaxNode};
 
 /// How many nodes and tokens a tree has.
-#[derive(Clone, Copy)]
+#[derive(Clone, Copy, Debug, PartialEq, Eq)]
 pub struct Counts {
     /// The number of its nodes.
     pub nodes: u64,

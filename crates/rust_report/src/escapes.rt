@@ -14,7 +14,7 @@ use std::fmt::{Formatter, Write};
 /// Unsafe characters are control characters (U+0000 to U+001F, U+007F to U+009F) and those that
 /// turn the direction of a text (U+202A to U+202E, U+2066 to U+2069). The symbol of a control
 /// character below U+0080 is its picture, such as `␍`; that of each other one is `�`.
-#[derive(Clone, Copy)]
+#[derive(Clone, Copy, Debug)]
 pub enum Medium {
     /// A page of HTML: `&`, `<`, `>`, `"` and `'` are printed as character references, and unsafe
     /// characters other than tabs and line feeds as symbols.
@@ -36,7 +36,7 @@ pub enum Medium {
 }
 
 /// Prints a text so that a medium shows it as it is.
-#[derive(Clone, Copy)]
+#[derive(Clone, Copy, Debug)]
 pub struct Escaped<'a> {
     /// The text.
     pub text: &'a str,
@@ -60,7 +60,7 @@ impl<'a> fmt::Display for Escaped<'a> {
 /// Prints the name of a file as git does it in a patch: as it is, or, if it has a `"`, a `\` or an
 /// unsafe character, between double quotes with escapes such as `\n` and `\033`. So it is always
 /// one line.
-#[derive(Clone, Copy)]
+#[derive(Clone, Copy, Debug)]
 pub struct Quoted<'a> {
     /// The name.
     pub name: &'a str,

@@ -12,7 +12,7 @@ use std::alloc::{AllocError, Global};
 use tree_rows::Table;
 
 /// How a match of a step is related to the match of the step before it.
-#[derive(Clone, Copy)]
+#[derive(Clone, Copy, Debug, PartialEq, Eq)]
 pub enum Link {
     /// It is a child of that: `>`.
     Child,
@@ -21,7 +21,7 @@ pub enum Link {
 }
 
 /// A step of a pattern.
-#[derive(Clone, Copy)]
+#[derive(Clone, Copy, Debug)]
 pub struct Step {
     /// How it is related to the step before it; not used in the first step.
     pub link: Link,

@@ -8,7 +8,7 @@ use std::marker::Model;
 use text_size::TextSize;
 
 /// A line and a column, both counted from 1, the column in characters. It prints as `line:column`.
-#[derive(Clone, Copy)]
+#[derive(Clone, Copy, Debug, PartialEq, Eq)]
 pub struct Spot {
     /// The number of the line.
     pub line: u64,

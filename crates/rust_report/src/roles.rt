@@ -9,7 +9,7 @@ use ras_node::support::{is_of_kind, is_token_of_kind};
 use rust_kinds::kinds::RENAME;
 
 /// The role of a token.
-#[derive(Clone, Copy)]
+#[derive(Clone, Copy, Debug, PartialEq, Eq)]
 pub enum Role {
     /// White space, punctuation, and every other name.
     Plain,

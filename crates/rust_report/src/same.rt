@@ -11,7 +11,7 @@ use ras_node::support::is_of_kind;
 use std::alloc::{AllocError, Global};
 
 /// Whether white space and comments are compared.
-#[derive(Clone, Copy)]
+#[derive(Clone, Copy, Debug, PartialEq, Eq)]
 pub enum Trivia {
     /// They are compared.
     Kept,

@@ -32,7 +32,7 @@ impl<'a> fmt::Display for Excerpt<'a> {
 /// Prints the line below an [`Excerpt`] on a terminal: blanks below the text before the range, and
 /// a `^` below each column of the range, at least one for each character and for an empty range. A
 /// character is as wide as `unicode_width` says; a tab before the range stays a tab.
-#[derive(Clone, Copy)]
+#[derive(Clone, Copy, Debug)]
 pub struct Marks<'a> {
     /// The line above.
     pub excerpt: Excerpt<'a>,

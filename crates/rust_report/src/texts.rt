@@ -67,7 +67,7 @@ pub fn line_at<'a>(text: &'a str, lines: &LineIndex<'_>, offset: TextSize) -> &'
 }
 
 /// The part of a line that a report shows of a range in it.
-#[derive(Clone, Copy)]
+#[derive(Clone, Copy, Debug)]
 pub struct Excerpt<'a> {
     /// Whether the line has text before the part.
     pub is_cut_before: bool,
