@@ -8,7 +8,7 @@ use crate::patterns::pattern_may_go;
 use crate::rustc::is_needed_by_rustc;
 use lossless_tree::{SyntaxKind, SyntaxNode, TextRange};
 use ras_node::support;
-use ras_node::support::share;
+use ras_node::support::{is_of_kind, share};
 use ras_prec::rules::needs_parens_in_place_of;
 use ras_prec_walks::parts::first_expr;
 use std::alloc::{AllocError, Global};
@@ -53,7 +53,7 @@ fn is_bare(pair: &SyntaxNode) -> bool
 fn contents_may_go(node: &SyntaxNode) -> bool
     ensures { result ≡ contents_may_go node.now }
 {
-    (node.kind() == SyntaxKind::PAREN_EXPR && inside_may_go(node)) || pattern_may_go(node)
+    (is_of_kind(node, SyntaxKind::PAREN_EXPR) && inside_may_go(node)) || pattern_may_go(node)
 }
 
 /// Whether a node is a pair of parentheses, with both parentheses and without attributes, around an
@@ -75,12 +75,12 @@ pub(crate) fn is_needed_outside(pair: &SyntaxNode) -> bool {
     let Some(inside) = first_expr(pair) else {
         return false;
     };
-    if inside.kind() == SyntaxKind::PAREN_EXPR {
+    if is_of_kind(&inside, SyntaxKind::PAREN_EXPR) {
         return false;
     }
     let mut outer = share(pair);
     for node in pair.ancestors() {
-        if node.kind() != SyntaxKind::PAREN_EXPR {
+        if !is_of_kind(&node, SyntaxKind::PAREN_EXPR) {
             return needs_parens_in_place_of(&inside, &node, &outer);
         }
         outer = node;

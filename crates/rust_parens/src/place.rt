@@ -115,7 +115,7 @@ fn is_arithmetic(kind: Option<SyntaxKind>) -> bool
 fn operator(node: &SyntaxNode) -> Option<SyntaxKind>
     ensures { result ≡ operator node.now }
 {
-    if node.kind() != SyntaxKind::BIN_EXPR {
+    if !is_of_kind(node, SyntaxKind::BIN_EXPR) {
         return None;
     }
     let token = ras_node::first_token::<BinaryOperators>(node.children_with_tokens())?;
@@ -133,7 +133,7 @@ fn is_behind(parent: &SyntaxNode, pair: &SyntaxNode) -> bool
 fn is_right_value(parent: &SyntaxNode, pair: &SyntaxNode) -> bool
     ensures { result ≡ is_right_value parent.now pair.now }
 {
-    (parent.kind() == SyntaxKind::INDEX_EXPR || is_assignment(operator(parent)))
+    (is_of_kind(parent, SyntaxKind::INDEX_EXPR) || is_assignment(operator(parent)))
         && is_behind(parent, pair)
 }
 
