@@ -1,7 +1,7 @@
 use Rattle.std.proofs.Common.{◌≡◌, true, map, string_bytes, sym, ◌∙◌, ap}
 use Rattle.lossless_tree.specs.Element.{element_of}
 use Rattle.tree_model.specs.Cursor.{descendants_of}
-use Rattle.rust_report.specs.Labels.{is_full, with_elements, elements_in}
+use Rattle.rust_report.specs.Labels.{is_full, with_elements}
 use Rattle.rust_report.proofs.LabelsLemmas.{filled}
 use Rattle.rust_report.proofs.labels.push_tokens.Goals as goal
 

@@ -1,6 +1,5 @@
-use Rattle.std.proofs.Common.{◌<◌, ap, ◌∙◌, [], refl, arith, length}
+use Rattle.std.proofs.Common.{◌<◌, [], refl, arith, length}
 use Rattle.rust_report.specs.Steps.{counted}
-use Rattle.rust_report.specs.Differences.{past}
 use Rattle.rust_report.proofs.StepLemmas.{one_more, no_more, enough}
 use Rattle.rust_report.proofs.same.push_differences.Goals as goal
 
