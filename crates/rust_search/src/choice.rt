@@ -1,5 +1,5 @@
 //! Which rules of a set are for a file.
-ghost use Rattle.std.specs.Prelude.{◌≡◌, IfOk, length};
+ghost use Rattle.std.specs.Prelude.{◌≡◌, ◌++◌, ◌∷◌, [], if◌then◌else◌, IfOk, OnOk, length};
 ghost use Rattle.std.specs.List.{list_all};
 ghost use Rattle.rust_search.specs.Rules.{is_for_all, is_for, numbers_for};
 
@@ -25,6 +25,23 @@ fn is_for(alloc: Global, note: &Note, path: &str) -> Result<bool, AllocError>
     chooses(alloc, note.files.as_slice(), path.as_bytes())
 }
 
+// Adds the number of a rule, if it is for a file.
+fn push_number(
+    alloc: Global,
+    numbers: &mut Vec<usize>,
+    number: usize,
+    note: &Note,
+    path: &str,
+) -> Result<(), AllocError>
+    ensures { OnOk result (numbers.new.items
+        ≡ numbers.old.items ++ (if is_for note.now path.now then number ∷ [] else [])) }
+{
+    if is_for(alloc, note, path)? {
+        numbers.push(number)?;
+    }
+    Ok(())
+}
+
 // A copy of a rule's texts, without its globs: of a set for one file nothing is chosen again.
 fn copied(alloc: Global, note: &Note) -> Result<Note, AllocError> {
     Ok(Note {
@@ -36,6 +53,17 @@ fn copied(alloc: Global, note: &Note) -> Result<Note, AllocError> {
         pattern: String::from_str(alloc, note.pattern.as_str())?,
         template: String::from_str(alloc, note.template.as_str())?,
     })
+}
+
+// Adds a rule of another set, by what is said of it.
+fn push_copy(alloc: Global, set: &mut RuleSet, note: &Note) -> Result<(), RulesError>
+    requires { length set.old.notes.items ≡ length set.old.rules.items }
+    ensures { OnOk result (length set.new.notes.items ≡ length set.new.rules.items) }
+{
+    let (pattern, template) = (note.pattern.as_str(), note.template.as_str());
+    let rule = rule_by(alloc, pattern, template, note.number)?;
+    push_noted(set, copied(alloc, note)?, rule)?;
+    Ok(())
 }
 
 impl RuleSet {
@@ -58,9 +86,7 @@ impl RuleSet {
     {
         let mut numbers = Vec::new(alloc);
         for (number, note) in self.notes.iter().enumerate() {
-            if is_for(alloc, note, path)? {
-                numbers.push(number)?;
-            }
+            push_number(alloc, &mut numbers, number, note, path)?;
         }
         Ok(numbers)
     }
@@ -80,9 +106,7 @@ impl RuleSet {
         };
         for number in numbers {
             if let Some(note) = self.notes.get(*number) {
-                let (pattern, template) = (note.pattern.as_str(), note.template.as_str());
-                let rule = rule_by(alloc, pattern, template, note.number)?;
-                push_noted(&mut set, copied(alloc, note)?, rule)?;
+                push_copy(alloc, &mut set, note)?;
             }
         }
         Ok(set)
