@@ -6,7 +6,6 @@ use Rattle.std.specs.Option.{option_and_then, is_some}
 use Rattle.text_size.specs.TextRange.{Bounds}
 use Rattle.tree_model.specs.Cursor.{Cursor, focus, range_start, range_end}
 use Rattle.tree_model.specs.Covering.{covering_of}
-use Rattle.tree_model.specs.Edit.{root_of}
 use Rattle.lossless_tree.specs.Element.{element_of, ancestors_of_element}
 use Rattle.ras_front_end.specs.declared.edition.Edition.{Edition}
 use Rattle.ras_front_end.specs.declared.edition.Entry.TheVariants.{SourceFile}
