@@ -4,7 +4,7 @@ use crate::pattern::QueryError;
 use std::alloc::{AllocError, Global};
 
 /// What is left of a text.
-#[derive(Clone, Copy)]
+#[derive(Clone, Copy, Debug)]
 pub(crate) struct Reader<'a> {
     rest: &'a str,
 }

@@ -168,29 +168,6 @@ impl<'p> Search<'p> {
         let rest = self.frames.len().saturating_sub(self.pattern.steps.len());
         self.frames.truncate(rest);
     }
-
-    fn walk(&mut self, alloc: Global, root: &SyntaxNode) -> Result<(), AllocError> {
-        let mut row = root.row();
-        for event in root.preorder_with_tokens() {
-            match event {
-                WalkEvent::Enter(element) => {
-                    self.enter(alloc, row, &element)?;
-                    row = row.saturating_add(1);
-                }
-                WalkEvent::Leave(_) => self.leave(),
-            }
-        }
-        Ok(())
-    }
-}
-
-// A matcher for each regular expression of a pattern.
-fn matchers_of(alloc: Global, pattern: &TextPattern) -> Result<Vec<Matcher<'_>>, AllocError> {
-    let mut matchers = Vec::with_capacity(alloc, pattern.regexes.len())?;
-    for regex in &pattern.regexes {
-        matchers.push(regex.matcher(alloc)?)?;
-    }
-    Ok(matchers)
 }
 
 /// The nodes and tokens of a tree that fit a pattern, in preorder. `//` leads to the nearest node
@@ -207,12 +184,25 @@ pub fn matches_of(
     root: &SyntaxNode,
     pattern: &TextPattern,
 ) -> Result<Vec<Found>, AllocError> {
+    let mut matchers = Vec::with_capacity(alloc, pattern.regexes.len())?;
+    for regex in &pattern.regexes {
+        matchers.push(regex.matcher(alloc)?)?;
+    }
     let mut search = Search {
         pattern,
-        matchers: matchers_of(alloc, pattern)?,
+        matchers,
         frames: Vec::new(alloc),
         found: Vec::new(alloc),
     };
-    search.walk(alloc, root)?;
+    let mut row = root.row();
+    for event in root.preorder_with_tokens() {
+        match event {
+            WalkEvent::Enter(element) => {
+                search.enter(alloc, row, &element)?;
+                row = row.saturating_add(1);
+            }
+            WalkEvent::Leave(_) => search.leave(),
+        }
+    }
     Ok(search.found)
 }
