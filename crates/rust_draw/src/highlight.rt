@@ -12,7 +12,7 @@ use std::io;
 use std::io::Write;
 
 /// The output of `highlight`.
-#[derive(Clone, Copy)]
+#[derive(Clone, Copy, Debug)]
 pub enum HighlightFormat {
     /// A page of HTML.
     Html,
@@ -109,7 +109,7 @@ body { background: #0d1117; color: #e6edf3 }
 ";
 
 /// Where a text is in the course of being written.
-#[derive(Clone, Copy)]
+#[derive(Clone, Copy, Debug)]
 pub(crate) struct Place {
     // The letter before the numbers of its lines, in the anchors of a page.
     letter: &'static str,

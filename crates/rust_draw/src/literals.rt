@@ -5,7 +5,7 @@ use literal_escape::{Mode, Units};
 use lossless_tree::{SyntaxKind, SyntaxNode, SyntaxToken, TextSize};
 
 /// What a part of a literal is.
-#[derive(Clone, Copy)]
+#[derive(Clone, Copy, Debug)]
 pub enum Part {
     /// Its quotes, and what stands for itself.
     Plain,
@@ -19,7 +19,7 @@ pub enum Part {
 }
 
 /// How a literal is cut into parts.
-#[derive(Clone, Copy)]
+#[derive(Clone, Copy, Debug)]
 pub struct Cut {
     // Which escapes it has; `None` if it is raw.
     mode: Option<Mode>,

@@ -48,18 +48,13 @@ fn write_kind<W: Write>(out: &mut W, known: &mut Vec<u32>, kind: SyntaxKind) -> 
     }
 }
 
-// The length of a text in units of UTF-16.
-fn units_of(text: &str) -> usize {
-    let mut units = 0usize;
-    for sign in text.chars() {
-        units = units.saturating_add(sign.len_utf16());
-    }
-    units
-}
-
 // Writes the length and the role of a token.
 fn write_token<W: Write>(out: &mut W, token: &SyntaxToken) -> io::Result<()> {
-    let (bytes, units) = (token.text().len(), units_of(token.text()));
+    let bytes = token.text().len();
+    let units = token
+        .text()
+        .chars()
+        .fold(0usize, |sum, it| sum.saturating_add(it.len_utf16()));
     write!(out, "={units}")?;
     if bytes != units {
         write!(out, "/{bytes}")?;
@@ -127,35 +122,6 @@ fn write_errors<W: Write>(out: &mut W, errors: &[SyntaxError]) -> io::Result<()>
     Ok(())
 }
 
-// Writes the front of the page: its head, the text of a node, and the errors of the text.
-fn write_front<W: Write>(
-    out: &mut W,
-    name: &str,
-    root: &SyntaxNode,
-    errors: &[SyntaxError],
-) -> io::Result<()> {
-    write_head(out, &[name])?;
-    write_style(out)?;
-    let (start, text) = (root.text_range().start().raw(), in_html(root.as_str()));
-    write!(
-        out,
-        "<pre id=\"source\" data-start=\"{start}\">\n{text}</pre>\n<ol id=\"errors\" hidden>"
-    )?;
-    write_errors(out, errors)?;
-    out.write_all(b"</ol>\n")
-}
-
-// Writes a link to the rules of the grammar, if there is one.
-fn write_grammar<W: Write>(out: &mut W, showing: &Showing) -> io::Result<()> {
-    match &showing.grammar {
-        Some(grammar) => {
-            let grammar = in_html(grammar.as_str());
-            writeln!(out, "<a id=\"grammar\" href=\"{grammar}\" hidden></a>")
-        }
-        None => Ok(()),
-    }
-}
-
 /// Writes the page of a node, with the errors of its text. It has some three bytes for each of a
 /// usual text.
 pub fn show<W: Write>(
@@ -166,10 +132,22 @@ pub fn show<W: Write>(
     errors: &[SyntaxError],
     showing: &Showing,
 ) -> io::Result<()> {
-    write_front(out, name, root, errors)?;
-    out.write_all(b"<script type=\"text/plain\" id=\"rows\">\n")?;
+    write_head(out, &[name])?;
+    write_style(out)?;
+    let start = root.text_range().start().raw();
+    writeln!(out, "<pre id=\"source\" data-start=\"{start}\">")?;
+    write!(
+        out,
+        "{}</pre>\n<ol id=\"errors\" hidden>",
+        in_html(root.as_str())
+    )?;
+    write_errors(out, errors)?;
+    out.write_all(b"</ol>\n<script type=\"text/plain\" id=\"rows\">\n")?;
     write_rows(alloc, out, root, showing)?;
     out.write_all(b"\n</script>\n")?;
-    write_grammar(out, showing)?;
+    if let Some(grammar) = &showing.grammar {
+        let grammar = in_html(grammar.as_str());
+        writeln!(out, "<a id=\"grammar\" href=\"{grammar}\" hidden></a>")?;
+    }
     write_script(out)
 }

@@ -164,23 +164,6 @@ impl<'d> Marks<'d> {
     }
 }
 
-// Writes the tokens of a text with the marks before, around and behind them.
-fn write_tokens<W: Write>(
-    out: &mut W,
-    root: &SyntaxNode,
-    marks: &mut Marks<'_>,
-    place: &mut Place,
-) -> io::Result<()> {
-    let text = root.as_str();
-    for element in root.descendants_with_tokens() {
-        if let NodeOrToken::Token(token) = &element {
-            marks.write_token(out, text, token, place)?;
-        }
-    }
-    let end = marks.end;
-    marks.write_starts(out, end)
-}
-
 // Writes a text with its marks.
 fn write_text<W: Write>(
     out: &mut W,
@@ -189,31 +172,24 @@ fn write_text<W: Write>(
     side: Side,
     found: &[Difference],
 ) -> io::Result<()> {
-    let mut place = Place::start(side.lines());
+    let (mut place, text) = (Place::start(side.lines()), root.as_str());
+    let end = root.text_range().end();
     let mut marks = Marks {
         side,
         found,
         begun: 0,
         open: None,
-        end: root.text_range().end(),
+        end,
     };
     write!(out, "<section>\n<h2>{}</h2>\n<pre>\n", in_html(name))?;
     write_anchor(out, &place)?;
-    write_tokens(out, root, &mut marks, &mut place)?;
-    out.write_all(b"</pre>\n</section>\n")
-}
-
-// Writes a node, or a token with its text.
-fn write_element<W: Write>(out: &mut W, element: &SyntaxElement) -> io::Result<()> {
-    let kind = Named(element.kind());
-    match element {
-        NodeOrToken::Node(_) => write!(out, "{kind}"),
-        NodeOrToken::Token(token) => {
-            let (text, is_cut) = cut(token.text());
-            let end = if is_cut { "…" } else { "" };
-            write!(out, "{kind} <q>{}{end}</q>", in_html(text))
+    for element in root.descendants_with_tokens() {
+        if let NodeOrToken::Token(token) = &element {
+            marks.write_token(out, text, token, &mut place)?;
         }
     }
+    marks.write_starts(out, end)?;
+    out.write_all(b"</pre>\n</section>\n")
 }
 
 // Writes what a tree has at a difference: a node, a token with its text, or the end of a node or of
@@ -222,7 +198,17 @@ fn write_event<W: Write>(out: &mut W, event: &Event) -> io::Result<()> {
     match event {
         None => out.write_all(b"the end"),
         Some(WalkEvent::Leave(element)) => write!(out, "the end of {}", Named(element.kind())),
-        Some(WalkEvent::Enter(element)) => write_element(out, element),
+        Some(WalkEvent::Enter(element)) => {
+            write!(out, "{}", Named(element.kind()))?;
+            match element {
+                NodeOrToken::Node(_) => Ok(()),
+                NodeOrToken::Token(token) => {
+                    let (text, is_cut) = cut(token.text());
+                    let end = if is_cut { "…" } else { "" };
+                    write!(out, " <q>{}{end}</q>", in_html(text))
+                }
+            }
+        }
     }
 }
 
@@ -278,19 +264,6 @@ fn end_of(text: &str) -> TextSize {
     TextSize::of(text).unwrap_or(TextSize::new(0))
 }
 
-// Writes the list of the differences, with the lines of the first text.
-fn write_list_by<W: Write>(
-    alloc: Global,
-    out: &mut W,
-    olds: &mut Spots<'_>,
-    old_end: TextSize,
-    new: &str,
-    found: &[Difference],
-) -> Result<(), Failure> {
-    let mut news = spots(alloc, new)?;
-    Ok(write_items(out, found, olds, &mut news, old_end, end_of(new))?)
-}
-
 // Writes the list of the differences.
 fn write_list<W: Write>(
     alloc: Global,
@@ -300,28 +273,10 @@ fn write_list<W: Write>(
     found: &[Difference],
 ) -> Result<(), Failure> {
     let mut olds = spots(alloc, old)?;
-    write_list_by(alloc, out, &mut olds, end_of(old), new, found)
-}
-
-// Writes the head of the page, and its style.
-fn write_front<W: Write>(out: &mut W, names: (&str, &str)) -> io::Result<()> {
-    write_head(out, &[names.0, names.1])?;
-    write_colours(out)?;
-    out.write_all(STYLE.as_bytes())
-}
-
-// Writes both texts with their marks, and the end of the page.
-fn write_texts<W: Write>(
-    out: &mut W,
-    names: (&str, &str),
-    roots: (&SyntaxNode, &SyntaxNode),
-    found: &[Difference],
-) -> io::Result<()> {
-    out.write_all(b"<main>\n")?;
-    write_text(out, names.0, roots.0, Side::Old, found)?;
-    write_text(out, names.1, roots.1, Side::New, found)?;
-    out.write_all(b"</main>\n")?;
-    out.write_all(SCRIPT.as_bytes())
+    let mut news = spots(alloc, new)?;
+    let (old_end, new_end) = (end_of(old), end_of(new));
+    write_items(out, found, &mut olds, &mut news, old_end, new_end)?;
+    Ok(())
 }
 
 // Writes the page of these differences.
@@ -332,9 +287,15 @@ fn write_page<W: Write>(
     roots: (&SyntaxNode, &SyntaxNode),
     found: &[Difference],
 ) -> Result<(), Failure> {
-    write_front(out, names)?;
+    write_head(out, &[names.0, names.1])?;
+    write_colours(out)?;
+    out.write_all(STYLE.as_bytes())?;
     write_list(alloc, out, roots.0.as_str(), roots.1.as_str(), found)?;
-    Ok(write_texts(out, names, roots, found)?)
+    out.write_all(b"<main>\n")?;
+    write_text(out, names.0, roots.0, Side::Old, found)?;
+    write_text(out, names.1, roots.1, Side::New, found)?;
+    out.write_all(b"</main>\n")?;
+    Ok(out.write_all(SCRIPT.as_bytes())?)
 }
 
 // Writes the page of the first differences of two trees.

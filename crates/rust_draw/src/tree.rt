@@ -17,7 +17,7 @@ use std::io;
 use std::io::Write;
 
 /// The form of a tree.
-#[derive(Clone, Copy)]
+#[derive(Clone, Copy, Debug)]
 pub enum TreeFormat {
     /// A line for each node and token, indented.
     Text,
@@ -30,7 +30,7 @@ pub enum TreeFormat {
 }
 
 /// The part of a tree that is shown.
-#[derive(Clone, Copy)]
+#[derive(Clone, Copy, Debug)]
 pub enum Part {
     /// The whole tree.
     Whole,
@@ -41,7 +41,7 @@ pub enum Part {
 }
 
 /// What is shown of a tree, and how.
-#[derive(Drop)]
+#[derive(Debug, Drop)]
 pub struct Showing {
     /// The form.
     pub drawing: TreeFormat,

@@ -145,45 +145,23 @@ fn write_github<W: Write>(
     writeln!(out, "::{message}{more}")
 }
 
-// Writes an error in the form that is asked for.
-fn write_error<W: Write>(
+fn write_all<W: Write>(
     alloc: Global,
     out: &mut W,
     source: Source<'_>,
-    spots: &mut Spots<'_>,
-    error: &SyntaxError,
-    more: More,
-    is_first: bool,
-    options: ReportOptions,
-) -> io::Result<()> {
-    let name = source.name;
-    match options.format {
-        ReportFormat::Text => write_text(out, source, spots, error, more, options),
-        ReportFormat::Json => write_json(alloc, out, name, spots, error),
-        ReportFormat::Github => write_github(out, name, spots, error, more, options),
-        ReportFormat::Sarif => write_sarif(alloc, out, name, spots, error, is_first, options),
-    }
-}
-
-// Whether of a run of errors only the first is written.
-fn folds(options: ReportOptions) -> bool {
-    !options.all_errors
-        && !options.is_upstream
-        && !matches!(options.format, ReportFormat::Json | ReportFormat::Sarif)
-}
-
-// Writes the errors of a tree.
-fn write_errors<W: Write>(
-    alloc: Global,
-    out: &mut W,
-    source: Source<'_>,
-    spots: &mut Spots<'_>,
     root: &SyntaxNode,
     errors: &[SyntaxError],
     options: ReportOptions,
-) -> io::Result<()> {
+) -> Result<u64, Failure> {
+    if errors.is_empty() {
+        return Ok(0);
+    }
+    let Source { name, text, .. } = source;
+    let mut spots = spots(alloc, text)?;
     let mut left = options.max_errors;
-    let folds = folds(options);
+    let folds = !options.all_errors
+        && !options.is_upstream
+        && !matches!(options.format, ReportFormat::Json | ReportFormat::Sarif);
     let mut folded: usize = 0;
     let mut is_first = options.is_first;
     for (at, error) in errors.iter().enumerate() {
@@ -199,25 +177,16 @@ fn write_errors<W: Write>(
             folded = more_behind(root, errors, at);
         }
         let more = More(folded);
-        write_error(alloc, out, source, spots, error, more, is_first, options)?;
+        match options.format {
+            ReportFormat::Text => write_text(out, source, &mut spots, error, more, options)?,
+            ReportFormat::Json => write_json(alloc, out, name, &mut spots, error)?,
+            ReportFormat::Github => write_github(out, name, &mut spots, error, more, options)?,
+            ReportFormat::Sarif => write_sarif(
+                alloc, out, name, &mut spots, error, is_first, options,
+            )?,
+        }
         is_first = false;
     }
-    Ok(())
-}
-
-fn write_all<W: Write>(
-    alloc: Global,
-    out: &mut W,
-    source: Source<'_>,
-    root: &SyntaxNode,
-    errors: &[SyntaxError],
-    options: ReportOptions,
-) -> Result<u64, Failure> {
-    if errors.is_empty() {
-        return Ok(0);
-    }
-    let mut spots = spots(alloc, source.text)?;
-    write_errors(alloc, out, source, &mut spots, root, errors, options)?;
     Ok(errors.len() as u64)
 }
 

@@ -4,24 +4,23 @@ use crate::failure::Failure;
 use crate::names::Named;
 use crate::shown::{cut, name};
 use crate::source::{Reading, Source, move_to, parsed, spots};
-use lossless_tree::{NodeOrToken, SyntaxElement, SyntaxToken, TextSize, WalkEvent};
+use lossless_tree::{NodeOrToken, SyntaxElement, TextSize, WalkEvent};
 use rust_report::{Difference, Spots, Trivia, differences};
 use std::alloc::Global;
 use std::io;
 use std::io::Write;
 
-fn write_token<W: Write>(alloc: Global, out: &mut W, token: &SyntaxToken) -> io::Result<()> {
-    let (text, is_cut) = cut(token.text());
-    let end = if is_cut { " .." } else { "" };
-    let text = format!(in alloc; "{text:?}")?;
-    writeln!(out, "{} {}{end}", Named(token.kind()), name(text.as_str()))
-}
-
 // Writes a node, or a token with its text.
 fn write_element<W: Write>(alloc: Global, out: &mut W, element: &SyntaxElement) -> io::Result<()> {
+    let kind = Named(element.kind());
     match element {
-        NodeOrToken::Node(node) => writeln!(out, "{}", Named(node.kind())),
-        NodeOrToken::Token(token) => write_token(alloc, out, token),
+        NodeOrToken::Node(_) => writeln!(out, "{kind}"),
+        NodeOrToken::Token(token) => {
+            let (text, is_cut) = cut(token.text());
+            let end = if is_cut { " .." } else { "" };
+            let text = format!(in alloc; "{text:?}")?;
+            writeln!(out, "{kind} {}{end}", name(text.as_str()))
+        }
     }
 }
 
@@ -48,7 +47,7 @@ fn write_side<W: Write>(
 }
 
 /// How many places were printed, and whether there are more.
-#[derive(Clone, Copy)]
+#[derive(Clone, Copy, Debug)]
 pub struct Told {
     /// The number of places.
     pub places: usize,

@@ -8,7 +8,7 @@ use std::io::Write;
 use std::{fmt, io};
 
 /// What a result is about.
-#[derive(Clone, Copy)]
+#[derive(Clone, Copy, Debug)]
 pub enum Rule {
     /// A syntax error.
     Syntax,
@@ -47,7 +47,7 @@ impl Rule {
 }
 
 /// What the report says of a rule of search and replace that has a name.
-#[derive(Clone, Copy)]
+#[derive(Clone, Copy, Debug)]
 pub struct Described<'a> {
     /// Its name, which is the `ruleId` of its results.
     pub name: &'a str,
@@ -66,7 +66,7 @@ impl<'a> Described<'a> {
 }
 
 /// A place of a text.
-#[derive(Clone, Copy)]
+#[derive(Clone, Copy, Debug)]
 pub struct Region {
     /// Where it starts.
     pub from: Spot,
@@ -86,21 +86,17 @@ pub struct Uri<'a> {
     pub path: &'a str,
 }
 
-fn write_byte<W: fmt::Write>(f: &mut fmt::Formatter<W>, byte: u8) -> fmt::Result {
-    if byte.is_ascii_alphanumeric() || matches!(byte, b'-' | b'.' | b'_' | b'~' | b'/') {
-        f.write_char(byte as char)
-    } else {
-        write!(f, "%{byte:02X}")
-    }
-}
-
 impl fmt::Display for Uri<'_> {
     fn fmt<W: fmt::Write>(&self, f: &mut fmt::Formatter<W>) -> fmt::Result {
         if self.path.starts_with('/') {
             f.write_str("file://")?;
         }
         for byte in self.path.bytes() {
-            write_byte(f, byte)?;
+            if byte.is_ascii_alphanumeric() || matches!(byte, b'-' | b'.' | b'_' | b'~' | b'/') {
+                write!(f, "{}", byte as char)?;
+            } else {
+                write!(f, "%{byte:02X}")?;
+            }
         }
         Ok(())
     }

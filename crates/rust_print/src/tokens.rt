@@ -12,7 +12,7 @@ use serde::Serialize;
 use std::alloc::Global;
 use std::io;
 use std::io::Write;
-use text_size::{TextRange, TextSize};
+use text_size::TextSize;
 use token_layout::Token;
 
 // A token in JSON; `start` and `end` are offsets in bytes.
@@ -34,31 +34,6 @@ struct ErrorRecord<'a> {
     message: &'a str,
 }
 
-// Writes an error with its message.
-fn write_message<W: Write>(
-    alloc: Global,
-    out: &mut W,
-    path: &str,
-    range: TextRange,
-    message: &str,
-    format: ReportFormat,
-) -> io::Result<()> {
-    match format {
-        ReportFormat::Json => {
-            let record = ErrorRecord {
-                path,
-                start: range.start().raw(),
-                end: range.end().raw(),
-                message,
-            };
-            json::write_line(alloc, out, &record)
-        }
-        ReportFormat::Text | ReportFormat::Github | ReportFormat::Sarif => {
-            writeln!(out, "error {range}: {}", name(message))
-        }
-    }
-}
-
 fn write_error<W: Write>(
     alloc: Global,
     out: &mut W,
@@ -68,14 +43,29 @@ fn write_error<W: Write>(
 ) -> io::Result<()> {
     let (front, back) = error.problem.message();
     let range = error.range;
-    let (start, end) = (range.start().raw() as usize, range.end().raw() as usize);
+    let (start, end) = (range.start().raw(), range.end().raw());
     let own = if back.is_empty() {
         ""
     } else {
-        source.text.get(start..end).unwrap_or("")
+        source.text.get(start as usize..end as usize).unwrap_or("")
     };
     let message = format!(in alloc; "{front}{own}{back}")?;
-    write_message(alloc, out, source.name, range, message.as_str(), format)
+    match format {
+        ReportFormat::Json => {
+            let record = ErrorRecord {
+                path: source.name,
+                start,
+                end,
+                message: message.as_str(),
+            };
+            json::write_line(alloc, out, &record)
+        }
+        ReportFormat::Text | ReportFormat::Github | ReportFormat::Sarif => writeln!(
+            out,
+            "error {range}: {}",
+            name(message.as_str())
+        ),
+    }
 }
 
 fn write_token<W: Write>(
