@@ -1,6 +1,6 @@
 -- Orders that meet nothing of what is around a part of a text lay the same there.
 use Rattle.std.proofs.Common.{◌≡◌, ◌⊎◌, inl, inr, ℕ, zero, suc, ◌+◌, ◌-◌, ◌≤◌, ◌<◌, ◌^◌, List, [], ◌∷◌, ◌++◌, length, take, drop, fold, ap, ap₂, sym, ◌∙◌, refl, arith, subst, Option, Some, None, Bool, true, false, if◌then◌else◌, nat_lt, add-one, append_assoc, append-nil}
-use Rattle.std.specs.Prelude.{◌&&◌, position}
+use Rattle.std.specs.Prelude.{◌&&◌}
 use Rattle.std.proofs.lemmas.Bool.{lt-ltb, ltb-true, ltb-false}
 use Rattle.std.proofs.lemmas.List.{drop-take, drop-drop, length-append, length-drop, length-take, take-append-le, drop-append-le, map-append}
 use Rattle.syntax_kind.specs.declared.syntax_kind.SyntaxKind.{SyntaxKind}

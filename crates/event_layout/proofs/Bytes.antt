@@ -1,6 +1,5 @@
 -- What is laid takes the text up to the position.
 use Rattle.std.proofs.Common.{◌≡◌, ℕ, zero, suc, ◌+◌, ◌-◌, ◌^◌, min, Bool, true, false, nat_lt, if◌then◌else◌, List, [], ◌∷◌, ◌++◌, take, drop, arith, Option, Some, None}
-use Rattle.std.specs.Prelude.{position}
 use Rattle.syntax_kind.specs.declared.syntax_kind.SyntaxKind.{SyntaxKind}
 use Rattle.ras_front_end.specs.Reading.{FrontStep, begins, takes, ends, reports}
 use Rattle.token_layout.specs.declared.span.Token.{Token as RawToken}

@@ -26,5 +26,5 @@ pub mod Retold
 pub mod Begun
 pub mod Noting
 pub mod Idle
-mod Handed
+pub mod Walks
 pub mod Blanks

@@ -1,6 +1,5 @@
 -- The walk over the events does what they order.
 use Rattle.std.proofs.Common.{◌≡◌, ℕ, zero, suc, ◌+◌, ◌-◌, ◌<◌, ◌^◌, min, List, [], ◌∷◌, ◌++◌, length, drop, map, ap, sym, ◌∙◌, refl, arith, Option, Some, None, Bool, true, false, if◌then◌else◌, nat_lt, nat_eq, append_assoc, append-nil, slice_get}
-use Rattle.std.specs.Prelude.{position}
 use Rattle.syntax_kind.specs.declared.syntax_kind.SyntaxKind.{SyntaxKind}
 use Rattle.ras_front_end.specs.Reading.{begins, ends}
 use Rattle.token_layout.specs.declared.span.Token.{Token as RawToken}

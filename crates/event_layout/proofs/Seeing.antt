@@ -1,6 +1,5 @@
 -- What each event adds to the steps, but for white space and comments.
 use Rattle.std.proofs.Common.{◌≡◌, ℕ, zero, suc, ◌+◌, ◌-◌, ◌≤◌, ◌<◌, ◌^◌, min, List, [], ◌∷◌, ◌++◌, length, take, drop, fold, sum_by, ap, sym, ◌∙◌, refl, arith, subst, Option, Some, None, Bool, true, false, not, ◌&&◌, if◌then◌else◌, nat_lt, nat_eq, append_assoc, append-nil}
-use Rattle.std.specs.Prelude.{position}
 use Rattle.std.proofs.Math.Nat.{min-eq_left}
 use Rattle.std.proofs.lemmas.Bool.{lt-ltb}
 use Rattle.std.proofs.lemmas.List.{drop-drop, length-drop, length-take}

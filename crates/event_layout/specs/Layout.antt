@@ -3,7 +3,7 @@ use Rattle.std.specs.Prelude.{ℕ, zero, suc, ◌≡◌, ◌≤◌, ◌<◌, ◌
 use Rattle.syntax_kind.specs.declared.syntax_kind.SyntaxKind.{SyntaxKind}
 use Rattle.syntax_kind.specs.declared.syntax_kind.SyntaxKind.TheVariants as family
 use Rattle.syntax_kind.specs.declared.syntax_kind.token_kind.TokenKind.TheVariants as kind
-use Rattle.ras_front_end.specs.Reading.{FrontStep, begins, takes, ends, front_steps}
+use Rattle.ras_front_end.specs.Reading.{FrontStep, begins, takes, ends}
 use Rattle.token_layout.specs.declared.span.Token.{Token as RawToken}
 use Rattle.grammar_machine.specs.declared.event.Event.{Event}
 use Rattle.grammar_machine.specs.declared.event.Event.TheVariants.{Token, Piece, Node, Error}
@@ -41,8 +41,9 @@ pub record Laying : Type 0 where
 abbrev pub given_of : Plan → Given
 given_of p = record { bytes = p.bytes.now; events = p.events.now; attaching = p.attaching.now; root = p.root; links = links_of p.starts }
 
-abbrev pub laying_of : Layout → Laying
-laying_of l = record { next = l.next; entering = l.entering; rest = l.rest.now; cut = l.cut; position = l.position; depth = l.depth; steps = front_steps l.steps.items; faults = l.faults.items }
+-- the state of a layout that gave these steps to its sink
+abbrev pub laying_of : {S : Type 0} → Layout S → List FrontStep → Laying
+laying_of l steps = record { next = l.next; entering = l.entering; rest = l.rest.now; cut = l.cut; position = l.position; depth = l.depth; steps = steps; faults = l.faults.items }
 
 abbrev pub added : FrontStep → Laying → Laying
 added x s = record s { steps = s.steps ++ x ∷ [] }

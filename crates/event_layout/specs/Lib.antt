@@ -1,7 +1,7 @@
 pub mod Starts
 pub mod Trivia
 pub mod Layout
-pub mod Handed
+pub mod Walk
 pub mod Made
 pub mod Orders
 pub mod Amid

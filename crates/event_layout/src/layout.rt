@@ -2,14 +2,15 @@
 ghost use Rattle.std.specs.Prelude.{false, position, nat_eq, ◌≡◌, ◌-◌, ◌≤◌, ◌<◌, ◌^◌, [], OnOk, IfOk, All, length, slice_get};
 ghost use Rattle.ras_front_end.specs.Reading.{front_step, front_steps};
 ghost use Rattle.token_layout.specs.Laid.{IsCut, Laid};
-ghost use Rattle.event_layout.specs.Layout.{laying_of, given_of, given, kind_of_part, len_of_part, dot_of, cut_at, is_node_of, is_node_at, added, leaf_of, pass_of, pass_all_of, pass_trivia_of, join_of, joined_len, piece_of, enter_of, exit_of, exit_all_of, begin_with, begin_of, begin_at_of, fault_of, obey_of, advance_of, IsOver, anywhere, finish_of, root_of, outermost_of, moves, moves_of, start_of, laid_with, laid_of};
+ghost use Rattle.event_layout.specs.Walk.{Moved, IsLaid, IsLaidAnywhere};
+ghost use Rattle.event_layout.specs.Layout.{laying_of, given_of, given, kind_of_part, len_of_part, dot_of, cut_at, is_node_of, is_node_at, leaf_of, pass_of, pass_all_of, pass_trivia_of, join_of, joined_len, piece_of, enter_of, exit_of, exit_all_of, begin_with, begin_of, begin_at_of, fault_of, obey_of, advance_of, IsOver, finish_of, root_of, outermost_of, moves, moves_of, start_of, laid_with, laid_of};
 ghost use Rattle.event_layout.specs.Trivia.{outside_of};
 ghost use Rattle.event_layout.specs.Made.{without_trivia, only_tokens, made_of};
 
 use crate::starts::{Starts, find_starts};
 use crate::trivia::{behind, first, is_blank, later, lead, outside, part};
 use grammar_machine::{Event, Part};
-use ras_front_end::Step;
+use ras_front_end::{Step, StepSink};
 use std::alloc::{AllocError, Global};
 use syntax_kind::SyntaxKind;
 use text_size::TextSize;
@@ -35,11 +36,20 @@ pub struct LaidOut {
     pub faults: Vec<ParserError>,
 }
 
+/// A sink that took the steps of a tree, and the parser's errors.
+#[derive(Drop)]
+pub struct HandedOut<S> {
+    /// The sink.
+    pub sink: S,
+    /// The errors, in order.
+    pub faults: Vec<ParserError>,
+}
+
 // What stays the same.
 #[derive(Drop)]
-pub(crate) struct Plan<'a> {
+struct Plan<'a> {
     bytes: &'a [u8],
-    pub(crate) events: &'a [Event],
+    events: &'a [Event],
     attaching: &'a [SyntaxKind],
     // the event of the root's node
     root: usize,
@@ -47,7 +57,7 @@ pub(crate) struct Plan<'a> {
 }
 
 #[derive(Drop)]
-pub(crate) struct Layout<'a> {
+struct Layout<'a, S> {
     // the number of the next event
     next: usize,
     // the node that is entered before it, as in `Starts`
@@ -59,8 +69,9 @@ pub(crate) struct Layout<'a> {
     position: TextSize,
     // how many nodes are open in the root
     depth: usize,
-    steps: Vec<Step>,
-    pub(crate) faults: Vec<ParserError>,
+    // what took the steps
+    sink: S,
+    faults: Vec<ParserError>,
 }
 
 fn event_at(events: &[Event], i: usize) -> Option<Event>
@@ -141,20 +152,8 @@ fn is_node_at(events: &[Event], i: usize) -> bool
     }
 }
 
-// The capacity of the list of steps: one for each token, two for each node and for the root, and
-// three tenths more. The C library keeps freed memory of up to twice its largest block, so that
-// with this much the next parse gets the same memory again. Pages that the list does not fill are
-// never touched.
-fn capacity_for(tokens: &[Token], nodes: usize) -> usize {
-    let steps = nodes
-        .saturating_add(1)
-        .saturating_mul(2)
-        .saturating_add(tokens.len());
-    steps.saturating_add(steps / 10 * 3)
-}
-
 impl<'a> Plan<'a> {
-    pub(crate) fn new(
+    fn new(
         alloc: Global,
         attaching: &'a [SyntaxKind],
         bytes: &'a [u8],
@@ -172,25 +171,21 @@ impl<'a> Plan<'a> {
             starts,
         })
     }
-
-    // How many nodes the events make, the root aside.
-    pub(crate) fn nodes(&self) -> usize {
-        self.starts.nodes
-    }
 }
 
-impl<'a> Layout<'a> {
-    pub(crate) fn new(
+impl<'a, S: StepSink + Drop> Layout<'a, S> {
+    fn new(
         alloc: Global,
         root: SyntaxKind,
         plan: &Plan,
         tokens: &'a [Token],
-        capacity: usize,
-    ) -> Result<Layout<'a>, AllocError>
-        ensures { IfOk result (λ l. laying_of l ≡ start_of root (given_of plan.now) tokens.now) }
+    ) -> Result<Layout<'a, S>, AllocError>
+        ensures { IfOk result
+            (λ l. IsLaid S.took l (start_of root (given_of plan.now) tokens.now)) }
     {
-        let mut steps = Vec::with_capacity(alloc, capacity)?;
-        steps.push(Step::Enter(root))?;
+        let elements = plan.starts.nodes.saturating_add(1).saturating_add(tokens.len());
+        let mut sink = S::with_room(alloc, elements)?;
+        sink.start_node(root)?;
         Ok(Layout {
             next: 0,
             entering: plan.starts.last_at(0),
@@ -198,30 +193,22 @@ impl<'a> Layout<'a> {
             cut: TextSize::new(0),
             position: TextSize::new(0),
             depth: 0,
-            steps,
+            sink,
             faults: Vec::new(alloc),
         })
     }
 
-    #[tactic(auto, using(token_layout::proofs::Push::front_steps_push))]
-    fn add(&mut self, step: Step) -> Result<(), AllocError>
-        ensures { OnOk result (laying_of self.new ≡ added (front_step step) (laying_of self.old)) }
-    {
-        self.steps.push(step)?;
-        Ok(())
-    }
-
     fn leaf(&mut self, kind: SyntaxKind, len: TextSize) -> Result<(), AllocError>
-        ensures { OnOk result (laying_of self.new ≡ leaf_of kind len (laying_of self.old)) }
+        ensures { OnOk result (Moved S.took self.old self.new (leaf_of kind len)) }
     {
-        self.add(Step::Token(kind, len))?;
+        self.sink.token(kind, len)?;
         self.position = later(self.position, len);
         Ok(())
     }
 
     // One token of the lexer's.
     fn pass(&mut self) -> Result<(), AllocError>
-        ensures { OnOk result (laying_of self.new ≡ pass_of (laying_of self.old)) }
+        ensures { OnOk result (Moved S.took self.old self.new pass_of) }
     {
         match self.rest {
             [] => Ok(()),
@@ -236,9 +223,8 @@ impl<'a> Layout<'a> {
     }
 
     #[inline(never)]
-    #[tactic(auto, using(crate::proofs::Moves::pass_all_none, crate::proofs::Moves::pass_all_more))]
     fn pass_all(&mut self, count: usize) -> Result<(), AllocError>
-        ensures { OnOk result (laying_of self.new ≡ pass_all_of count (laying_of self.old)) }
+        ensures { OnOk result (Moved S.took self.old self.new (pass_all_of count)) }
     {
         for _i in 0..count {
             self.pass()?;
@@ -249,7 +235,7 @@ impl<'a> Layout<'a> {
     // Most tokens have none before them.
     #[inline(always)]
     fn pass_trivia(&mut self) -> Result<(), AllocError>
-        ensures { OnOk result (laying_of self.new ≡ pass_trivia_of (laying_of self.old)) }
+        ensures { OnOk result (Moved S.took self.old self.new pass_trivia_of) }
     {
         let count = lead(self.rest);
         if count > 0 {
@@ -262,7 +248,7 @@ impl<'a> Layout<'a> {
     // A token that is made of the next token of the lexer and `more` after it.
     #[inline(always)]
     fn join(&mut self, kind: SyntaxKind, more: u8) -> Result<(), AllocError>
-        ensures { OnOk result (laying_of self.new ≡ join_of kind more (laying_of self.old)) }
+        ensures { OnOk result (Moved S.took self.old self.new (join_of kind more)) }
     {
         match self.rest {
             [] => Ok(()),
@@ -279,13 +265,13 @@ impl<'a> Layout<'a> {
     // The rest of the token.
     fn last_piece(&mut self, part: Part) -> Result<(), AllocError>
         ensures { OnOk result
-            (laying_of self.new ≡ join_of (kind_of_part part) 0 (laying_of self.old)) }
+            (Moved S.took self.old self.new (join_of (kind_of_part part) 0)) }
     {
         self.join(kind_of(part), 0)
     }
 
     fn cut_at(&mut self, piece: Part, dot: Option<usize>) -> Result<(), AllocError>
-        ensures { OnOk result (laying_of self.new ≡ cut_at piece dot (laying_of self.old)) }
+        ensures { OnOk result (Moved S.took self.old self.new (cut_at piece dot)) }
     {
         match dot {
             None => Ok(()),
@@ -300,7 +286,7 @@ impl<'a> Layout<'a> {
     // The digits before the dot, or the dot.
     #[inline(never)]
     fn piece(&mut self, bytes: &[u8], piece: Part) -> Result<(), AllocError>
-        ensures { OnOk result (laying_of self.new ≡ piece_of bytes.now piece (laying_of self.old)) }
+        ensures { OnOk result (Moved S.took self.old self.new (piece_of bytes.now piece)) }
     {
         match self.rest {
             [] => Ok(()),
@@ -312,30 +298,29 @@ impl<'a> Layout<'a> {
     }
 
     fn enter(&mut self, kind: SyntaxKind) -> Result<(), AllocError>
-        ensures { OnOk result (laying_of self.new ≡ enter_of kind (laying_of self.old)) }
+        ensures { OnOk result (Moved S.took self.old self.new (enter_of kind)) }
     {
         if self.depth < usize::MAX {
             self.depth += 1;
-            self.add(Step::Enter(kind))
+            self.sink.start_node(kind)
         } else {
             Ok(())
         }
     }
 
     fn exit(&mut self) -> Result<(), AllocError>
-        ensures { OnOk result (laying_of self.new ≡ exit_of (laying_of self.old)) }
+        ensures { OnOk result (Moved S.took self.old self.new exit_of) }
     {
         if self.depth > 0 {
             self.depth -= 1;
-            self.add(Step::Exit)
+            self.sink.finish_node()
         } else {
             Ok(())
         }
     }
 
-    #[tactic(auto, using(crate::proofs::Moves::exit_all_none, crate::proofs::Moves::exit_all_more))]
     fn exit_all(&mut self, count: usize) -> Result<(), AllocError>
-        ensures { OnOk result (laying_of self.new ≡ exit_all_of count (laying_of self.old)) }
+        ensures { OnOk result (Moved S.took self.old self.new (exit_all_of count)) }
     {
         for _i in 0..count {
             self.exit()?;
@@ -352,10 +337,9 @@ impl<'a> Layout<'a> {
         kind: SyntaxKind,
         count: usize,
     ) -> Result<(), AllocError>
-        ensures { OnOk result (laying_of self.new
-            ≡ begin_with kind count
+        ensures { OnOk result (Moved S.took self.old self.new (begin_with kind count
             (outside_of plan.now.bytes.now plan.now.attaching.now kind self.old.position
-            self.old.rest.now count) (laying_of self.old)) }
+            self.old.rest.now count))) }
     {
         let outside = outside(
             plan.bytes,
@@ -376,10 +360,10 @@ impl<'a> Layout<'a> {
 
     // Most nodes have none before them, or white space alone, which stays outside.
     #[inline(always)]
-    #[tactic(auto, using(crate::proofs::Moves::pass_all_none, crate::proofs::Blanks::begun_behind_blank))]
+    #[tactic(auto, using(crate::proofs::Moves::pass_all_none))]
     fn begin(&mut self, plan: &Plan, kind: SyntaxKind) -> Result<(), AllocError>
         ensures { OnOk result
-            (laying_of self.new ≡ begin_of (given_of plan.now) kind (laying_of self.old)) }
+            (Moved S.took self.old self.new (begin_of (given_of plan.now) kind)) }
     {
         let count = lead(self.rest);
         if count == 0 {
@@ -394,7 +378,7 @@ impl<'a> Layout<'a> {
 
     fn begin_at(&mut self, plan: &Plan, event: Option<Event>) -> Result<(), AllocError>
         ensures { OnOk result
-            (laying_of self.new ≡ begin_at_of (given_of plan.now) event (laying_of self.old)) }
+            (Moved S.took self.old self.new (begin_at_of (given_of plan.now) event)) }
     {
         match event {
             Some(Event::Node { kind, from: _ }) => self.begin(plan, kind),
@@ -404,7 +388,7 @@ impl<'a> Layout<'a> {
 
     #[inline(never)]
     fn fault(&mut self, message: u16) -> Result<(), AllocError>
-        ensures { OnOk result (laying_of self.new ≡ fault_of message (laying_of self.old)) }
+        ensures { OnOk result (Moved S.took self.old self.new (fault_of message)) }
     {
         self.faults.push(ParserError {
             message,
@@ -416,7 +400,7 @@ impl<'a> Layout<'a> {
 
     fn obey(&mut self, plan: &Plan, event: Event, number: usize) -> Result<(), AllocError>
         ensures { OnOk result
-            (laying_of self.new ≡ obey_of (given_of plan.now) event number (laying_of self.old)) }
+            (Moved S.took self.old self.new (obey_of (given_of plan.now) event number)) }
     {
         match event {
             Event::Token { kind, signs } => {
@@ -442,11 +426,11 @@ impl<'a> Layout<'a> {
 
     // One move. Returns whether there is more to do.
     #[tactic(auto, unfolding(crate::specs::Layout::advance_of), using(crate::proofs::Idle::none_left))]
-    pub(crate) fn advance(&mut self, plan: &Plan) -> Result<bool, AllocError>
+    fn advance(&mut self, plan: &Plan) -> Result<bool, AllocError>
         ensures moved { OnOk result
-            (laying_of self.new ≡ advance_of (given_of plan.now) (laying_of self.old)) }
+            (Moved S.took self.old self.new (advance_of (given_of plan.now))) }
         ensures over { IfOk result
-            (λ more. more ≡ false → IsOver (given_of plan.now) (laying_of self.new)) }
+            (λ more. more ≡ false → IsOver (given_of plan.now) (laying_of self.new [])) }
     {
         if self.entering > 0 {
             let number = self.entering as usize - 1;
@@ -470,46 +454,30 @@ impl<'a> Layout<'a> {
         }
     }
 
-    // The steps that are not handed on.
-    pub(crate) fn steps(&self) -> &[Step]
-        ensures { front_steps result.now ≡ (laying_of self.now).steps }
-    {
-        &self.steps
-    }
-
-    // The steps were handed on.
-    pub(crate) fn forget_steps(&mut self)
-        ensures { laying_of self.new ≡ record (laying_of self.old) { steps = [] } }
-    {
-        self.steps.clear();
-    }
-
     // What is left after the last event.
-    pub(crate) fn finish(&mut self) -> Result<(), AllocError>
-        ensures { OnOk result (laying_of self.new ≡ finish_of (laying_of self.old)) }
+    fn finish(&mut self) -> Result<(), AllocError>
+        ensures { OnOk result (Moved S.took self.old self.new finish_of) }
     {
         let count = self.rest.len();
         self.pass_all(count)?;
         let open = self.depth;
         self.exit_all(open)?;
-        self.add(Step::Exit)
+        self.sink.finish_node()
     }
 }
 
 #[inline(never)]
-#[tactic(auto, using(crate::proofs::Moves::moves_none, crate::proofs::Moves::moves_more))]
-fn walked<'a>(
+fn walked<'a, S: StepSink + Drop>(
     alloc: Global,
     root: SyntaxKind,
     plan: &Plan,
     tokens: &'a [Token],
-) -> Result<Layout<'a>, AllocError>
-    ensures { IfOk result (λ l. anywhere (laying_of l)
-        ≡ anywhere (moves (moves_of (length plan.now.events.now)) (given_of plan.now)
+) -> Result<Layout<'a, S>, AllocError>
+    ensures { IfOk result (λ l. IsLaidAnywhere S.took l
+        (moves (moves_of (length plan.now.events.now)) (given_of plan.now)
         (start_of root (given_of plan.now) tokens.now))) }
 {
-    let capacity = capacity_for(tokens, plan.starts.nodes);
-    let mut layout = Layout::new(alloc, root, plan, tokens, capacity)?;
+    let mut layout = Layout::new(alloc, root, plan, tokens)?;
     let moves = plan.events.len().saturating_mul(2);
     for _i in 0..moves {
         if !layout.advance(plan)? {
@@ -519,18 +487,21 @@ fn walked<'a>(
     Ok(layout)
 }
 
-fn walk<'a>(
+fn walk<S: StepSink + Drop>(
     alloc: Global,
     root: SyntaxKind,
     plan: &Plan,
-    tokens: &'a [Token],
-) -> Result<Layout<'a>, AllocError>
-    ensures { IfOk result
-        (λ l. anywhere (laying_of l) ≡ anywhere (laid_with root (given_of plan.now) tokens.now)) }
+    tokens: &[Token],
+) -> Result<HandedOut<S>, AllocError>
+    ensures steps { IfOk result
+        (λ h. S.took h.sink (laid_with root (given_of plan.now) tokens.now).steps) }
+    ensures faults { IfOk result
+        (λ h. h.faults.items ≡ (laid_with root (given_of plan.now) tokens.now).faults) }
 {
-    let mut layout = walked(alloc, root, plan, tokens)?;
+    let mut layout = walked::<S>(alloc, root, plan, tokens)?;
     layout.finish()?;
-    Ok(layout)
+    let Layout { sink, faults, .. } = layout;
+    Ok(HandedOut { sink, faults })
 }
 
 // The number of the last event that is a node: the outermost node, if the parser ends with it.
@@ -558,25 +529,24 @@ pub fn outermost(events: &[Event]) -> Option<SyntaxKind>
     }
 }
 
-fn lay(
+/// Makes the steps that [`lay_out`] makes, and gives them to a sink as it makes them, in place of a
+/// list.
+pub fn lay_out_into<S: StepSink + Drop>(
     alloc: Global,
     root: SyntaxKind,
     attaching: &[SyntaxKind],
-    bytes: &[u8],
+    text: &str,
     tokens: &[Token],
     events: &[Event],
-) -> Result<LaidOut, AllocError>
-    ensures steps { IfOk result (λ l. front_steps l.steps.items
-        ≡ (laid_of root attaching.now bytes.now tokens.now events.now).steps) }
-    ensures faults { IfOk result (λ l. l.faults.items
-        ≡ (laid_of root attaching.now bytes.now tokens.now events.now).faults) }
+) -> Result<HandedOut<S>, AllocError>
+    ensures steps { IfOk result (λ h. S.took h.sink
+        (laid_of root attaching.now text.now tokens.now events.now).steps) }
+    ensures faults { IfOk result
+        (λ h. h.faults.items ≡ (laid_of root attaching.now text.now tokens.now events.now).faults) }
 {
-    let plan = Plan::new(alloc, attaching, bytes, events)?;
-    let layout = walk(alloc, root, &plan, tokens)?;
-    Ok(LaidOut {
-        steps: layout.steps,
-        faults: layout.faults,
-    })
+    let plan = Plan::new(alloc, attaching, text.as_bytes(), events)?;
+    let handed = walk(alloc, root, &plan, tokens)?;
+    Ok(handed)
 }
 
 /// The steps of one node of the kind `root` over all tokens, and in it of the nodes of the events.
@@ -616,6 +586,10 @@ pub fn lay_out(
     ensures in_text { IfOk result (λ l. length text.now < 2 ^ 32 → IsCut tokens.now text.now
         → All (λ f. f.position ≤ length text.now) l.faults.items) }
 {
-    let laid = lay(alloc, root, attaching, text.as_bytes(), tokens, events)?;
-    Ok(laid)
+    let HandedOut { sink, faults } =
+        lay_out_into::<Vec<Step>>(alloc, root, attaching, text, tokens, events)?;
+    Ok(LaidOut {
+        steps: sink,
+        faults,
+    })
 }

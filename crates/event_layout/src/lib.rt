@@ -6,12 +6,10 @@
 #![tactic(auto)]
 
 mod ending;
-mod handing;
 pub mod laws;
 mod layout;
 mod starts;
 mod trivia;
 
 pub use ending::ends_in_token;
-pub use handing::{HandedOut, lay_out_into};
-pub use layout::{LaidOut, ParserError, lay_out, outermost};
+pub use layout::{HandedOut, LaidOut, ParserError, lay_out, lay_out_into, outermost};

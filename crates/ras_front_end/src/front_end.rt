@@ -5,7 +5,7 @@ ghost use Rattle.ras_front_end.specs.Front.{Front, FrontEndKeeps};
 
 use crate::edition::{Edition, Entry, Reparser};
 use crate::output::Output;
-use crate::step_sink::StepSink;
+use crate::step_sink::{StepSink, give};
 use crate::syntax_error::SyntaxError;
 use std::alloc::{AllocError, Global};
 use syntax_kind::SyntaxKind;
@@ -56,7 +56,7 @@ pub trait FrontEnd {
     {
         let Output { steps, errors } = self.parse(alloc, entry, text, edition)?;
         let mut sink = S::with_room(alloc, steps.len())?;
-        sink.take(&steps)?;
+        give(alloc, &mut sink, &steps)?;
         Ok((sink, errors))
     }
 

@@ -1,8 +1,7 @@
 -- What further steps add to a tree that is made as they come.
-use Rattle.std.proofs.Common.{◌≡◌, ℕ, zero, suc, ◌+◌, ◌<◌, ◌≤◌, ◌^◌, List, [], ◌∷◌, ◌++◌, length, take, drop, filter_map, refl, sym, ap, ◌∙◌, subst, arith, append-nil, append_assoc, get_or, Option, Some, None, Bool, true, false, cond, nat_lt}
+use Rattle.std.proofs.Common.{◌≡◌, ℕ, zero, suc, ◌+◌, ◌<◌, ◌≤◌, ◌^◌, List, [], ◌∷◌, ◌++◌, length, take, drop, filter_map, refl, sym, ap, ◌∙◌, subst, arith, append-nil, Option, Some, None, Bool, true, false, cond, nat_lt}
 use Rattle.std.specs.Prelude.{⊤, All}
 use Rattle.std.proofs.lemmas.List.{length-drop}
-use Rattle.std.proofs.Math.Seq.{take-suc}
 use Rattle.tree_model.specs.Tree.{Tree}
 use Rattle.tree_model.specs.Events.{enter, leaf, exit, BuildsNode}
 use Rattle.tree_rows.specs.declared.builder_event.BuilderEvent.{BuilderEvent}
@@ -11,11 +10,8 @@ use Rattle.tree_rows.specs.Builder.{TextsFit, IsOneTree}
 use Rattle.tree_rows.specs.Builder as builder
 use Rattle.tree_rows.specs.Making.{Making, after_step, run, nothing_made, MadeOf}
 use Rattle.tree_rows.specs.Run.{text_len}
-use Rattle.ras_front_end.specs.declared.output.Step.{Step}
-use Rattle.ras_front_end.specs.declared.output.Step.TheVariants.{Enter, Token, Exit, Error}
-use Rattle.ras_front_end.specs.TreeEvent.{tree_event}
 use Rattle.ras_front_end.specs.ErrorModel.{ErrorModel, LiesIn, fault_at}
-use Rattle.ras_front_end.specs.Reading.{FrontStep, begins, takes, ends, reports, Reading, IsGiven, front_step, front_steps, front_event, events_from, Cuts, step_faults, stored_faults}
+use Rattle.ras_front_end.specs.Reading.{FrontStep, begins, takes, ends, reports, Reading, IsGiven, front_event, events_from, Cuts, step_faults, stored_faults}
 use Rattle.ras_front_end.specs.Keeps.{Keeps}
 use Rattle.ras_front_end.specs.Parsed.{Parsed, IsParseOf, ErrorsLieIn}
 use Rattle.ras_parsing.specs.Sinks.{AreOf}
@@ -101,13 +97,6 @@ fault_added m errors errors' es t p is a = record {
 pub none_taken : AreOf nothing_made [] []
 none_taken = record { rows = λ short. refl; errors_are = refl }
 
--- the event of a step is that of its model
-pub same_event : (s : Step) → front_event (front_step s) ≡ tree_event s
-same_event (Enter k) = refl
-same_event (Token k n) = refl
-same_event Exit = refl
-same_event (Error p m) = refl
-
 -- ---- the tree of all steps
 
 events_same : (ss : List FrontStep) (s : List ℕ) → builder.events_from (filter_map front_event ss) s ≡ events_from ss s
@@ -153,19 +142,3 @@ module _ (input : List ℕ) (r : Reading) (k : Keeps (λ root. ⊤) input r) (sh
         record { builds = builds; text_is = same; errors_are = complete },
         subst (λ n. All (LiesIn n) errors) (ap length (sym same)) (subst (λ l. All (LiesIn (length input)) l) (sym complete) k.in_text),
       )
-
-front_append : (ss ts : List Step) → front_steps (ss ++ ts) ≡ front_steps ss ++ front_steps ts
-front_append [] ts = refl
-front_append (s ∷ ss) ts = ap (λ l. front_step s ∷ l) (front_append ss ts)
-
-next_taken : (steps : List Step) (i : ℕ) (x : Step) → i < length steps → x ≡ get_or steps i x → take i steps ++ x ∷ [] ≡ take (i + 1) steps
-next_taken steps i x h is =
-    let more : suc i ≡ i + 1 = omega arith in
-    ap (λ y. take i steps ++ y ∷ []) is ∙ sym (take-suc steps i x h) ∙ ap (λ n. take n steps) more
-
--- the next of some steps
-pub next_step : (before : List FrontStep) (steps : List Step) (i : ℕ) (x : Step) → i < length steps → x ≡ get_or steps i x
-    → (before ++ front_steps (take i steps)) ++ front_step x ∷ [] ≡ before ++ front_steps (take (i + 1) steps)
-next_step before steps i x h is =
-    append_assoc before (front_steps (take i steps)) (front_step x ∷ [])
-    ∙ ap (λ l. before ++ l) (sym (front_append (take i steps) (x ∷ [])) ∙ ap front_steps (next_taken steps i x h is))

@@ -1,15 +1,15 @@
 //! From the steps of a parse to a tree, as they come.
-ghost use Rattle.std.specs.Prelude.{◌≡◌, ◌<◌, ◌^◌, ◌++◌, ◌∷◌, [], List, None, Some, length, IfOk, OnOk, string_bytes};
-ghost use Rattle.ras_front_end.specs.TreeEvent.{tree_event};
+ghost use Rattle.std.specs.Prelude.{◌≡◌, ◌<◌, ◌^◌, ◌++◌, ◌∷◌, [], List, Some, length, IfOk, OnOk, string_bytes};
 ghost use Rattle.tree_model.specs.Cursor.{IsRoot};
 ghost use Rattle.ras_front_end.specs.Parsed.{IsParseOf, ErrorsLieIn};
-ghost use Rattle.ras_front_end.specs.Reading.{FrontStep, front_step, step_faults, reports};
+ghost use Rattle.ras_front_end.specs.Reading.{FrontStep, front_event, step_faults, ends, reports};
 ghost use Rattle.ras_parsing.specs.Sinks.{AreOf};
 
 use crate::build::store;
-use lossless_tree::{BuilderEvent, RowBuilder, SyntaxNode, TreeStep, tree_of_rows};
-use ras_front_end::{Edition, Entry, FrontEnd, Step, StepSink, SyntaxError};
+use lossless_tree::{BuilderEvent, RowBuilder, SyntaxNode, tree_of_rows};
+use ras_front_end::{Edition, Entry, FrontEnd, StepSink, SyntaxError};
 use std::alloc::{AllocError, Global};
+use syntax_kind::SyntaxKind;
 use text_size::TextSize;
 
 /// A tree whose steps come in parts, and the parser's errors among them.
@@ -33,45 +33,25 @@ impl TreeSink {
         Ok(())
     }
 
-    #[inline(always)]
-    fn add_event(&mut self, step: &Step, event: BuilderEvent) -> Result<(), AllocError>
-        requires { tree_event step.now ≡ Some event }
-        ensures { OnOk result ((before : List FrontStep)
-            → AreOf self.old.rows self.old.errors.items before
-            → AreOf self.new.rows self.new.errors.items (before ++ front_step step.now ∷ [])) }
+    // A function of its own, so that the compiler puts the `push` of a row into it.
+    #[inline(never)]
+    fn add(&mut self, event: BuilderEvent) -> Result<(), AllocError>
+        ensures { OnOk result ((step : FrontStep) → front_event step ≡ Some event
+            → (before : List FrontStep) → AreOf self.old.rows self.old.errors.items before
+            → AreOf self.new.rows self.new.errors.items (before ++ step ∷ [])) }
     {
         self.rows.add(event)?;
         Ok(())
     }
 
-    // A step without an event is an error, and rare.
-    #[cold]
-    #[inline(never)]
-    fn add_other(&mut self, step: &Step) -> Result<(), AllocError>
-        requires { tree_event step.now ≡ None }
-        ensures { OnOk result ((before : List FrontStep)
-            → AreOf self.old.rows self.old.errors.items before
-            → AreOf self.new.rows self.new.errors.items (before ++ front_step step.now ∷ [])) }
-    {
-        match step {
-            Step::Error(position, message) => {
-                let text: &String = message;
-                self.add_error(text.clone()?, *position)
-            }
-            Step::Enter(_) | Step::Token(_, _) | Step::Exit => Ok(()),
-        }
-    }
-
     #[inline(always)]
-    fn add(&mut self, step: &Step) -> Result<(), AllocError>
+    fn exit(&mut self) -> Result<(), AllocError>
         ensures { OnOk result ((before : List FrontStep)
             → AreOf self.old.rows self.old.errors.items before
-            → AreOf self.new.rows self.new.errors.items (before ++ front_step step.now ∷ [])) }
+            → AreOf self.new.rows self.new.errors.items (before ++ ends ∷ [])) }
     {
-        match step.event() {
-            Some(event) => self.add_event(step, event),
-            None => self.add_other(step),
-        }
+        self.rows.add(BuilderEvent::Exit)?;
+        Ok(())
     }
 }
 
@@ -88,14 +68,27 @@ impl StepSink for TreeSink {
         })
     }
 
-    fn take(&mut self, steps: &[Step]) -> Result<(), AllocError> {
-        for step in steps {
-            self.add(step)?;
-        }
-        Ok(())
+    #[inline(always)]
+    fn start_node(&mut self, kind: SyntaxKind) -> Result<(), AllocError> {
+        self.add(BuilderEvent::Enter(kind))
     }
 
-    fn report(&mut self, message: String, position: TextSize) -> Result<(), AllocError> {
+    #[inline(always)]
+    fn token(&mut self, kind: SyntaxKind, len: TextSize) -> Result<(), AllocError> {
+        self.add(BuilderEvent::Token(kind, len.raw() as usize))
+    }
+
+    #[inline(always)]
+    fn finish_node(&mut self) -> Result<(), AllocError> {
+        self.exit()
+    }
+
+    fn error(
+        &mut self,
+        _alloc: Global,
+        message: String,
+        position: TextSize,
+    ) -> Result<(), AllocError> {
         self.add_error(message, position)
     }
 }

@@ -10,14 +10,14 @@ ghost use Rattle.rust_front.specs.Tops.{read_at, whole_at};
 use crate::exact::{LONGEST_EXACT, exact_piece, has_head, is_exact_piece};
 use crate::message::{lexer_errors, lexer_message};
 use crate::piece::{exact_reparser_of, reparser_of, rule_by};
-use crate::report::{report_into, reported};
+use crate::report::report_into;
 use crate::retold::is_retold;
 use crate::root::attaching;
 use crate::top::TopEntryPoint;
-use event_layout::{HandedOut, lay_out, lay_out_into, outermost};
+use event_layout::{HandedOut, lay_out_into, outermost};
 use exact_front::ExactFront;
 use grammar_machine::{Event, run};
-use ras_front_end::{Edition, Entry, FrontEnd, Output, Reparser, StepSink, SyntaxError};
+use ras_front_end::{Edition, Entry, FrontEnd, Output, Reparser, Step, StepSink, SyntaxError};
 use rust_grammar::{Rule, grammar, rule_of, sights};
 use rust_lexer::{Lexed, is_strict_keyword, keyword, lex, single_token};
 use std::alloc::{AllocError, Global};
@@ -58,24 +58,7 @@ fn events(
     run(alloc, &grammar(), rule_of(rule), &sights)
 }
 
-#[tactic(auto, unfolding(crate::specs::Front::reading_with))]
-pub(crate) fn assemble(
-    alloc: Global,
-    root: SyntaxKind,
-    text: &str,
-    lexed: &Lexed,
-    events: &[Event],
-) -> Result<Output, AllocError>
-    ensures { IfOk result (λ o. reading_of o
-        ≡ reading_with root text.now lexed.now.tokens.items lexed.now.errors.items events.now) }
-{
-    let laid = lay_out(alloc, root, attaching(), text, &lexed.tokens, events)?;
-    let steps = reported(alloc, &lexed.tokens, laid.steps, &laid.faults)?;
-    let errors = lexer_errors(alloc, text, &lexed.errors)?;
-    Ok(Output { steps, errors })
-}
-
-// The same, with the steps given to a sink.
+// What is made of the events, with the steps given to a sink.
 #[tactic(auto, unfolding(crate::specs::Front::reading_with))]
 fn assemble_into<S: StepSink + Drop>(
     alloc: Global,
@@ -94,6 +77,21 @@ fn assemble_into<S: StepSink + Drop>(
     Ok((sink, errors))
 }
 
+// The same, with the steps in a list.
+pub(crate) fn assemble(
+    alloc: Global,
+    root: SyntaxKind,
+    text: &str,
+    lexed: &Lexed,
+    events: &[Event],
+) -> Result<Output, AllocError>
+    ensures { IfOk result (λ o. reading_of o
+        ≡ reading_with root text.now lexed.now.tokens.items lexed.now.errors.items events.now) }
+{
+    let (steps, errors) = assemble_into::<Vec<Step>>(alloc, root, text, lexed, events)?;
+    Ok(Output { steps, errors })
+}
+
 pub(crate) fn is_short(text: &str) -> bool
     ensures { result ≡ nat_lt (length text.now) (2 ^ 32) }
 {
@@ -107,38 +105,6 @@ fn nothing(alloc: Global) -> Output
     Output {
         steps: Vec::new(alloc),
         errors: Vec::new(alloc),
-    }
-}
-
-fn whole(
-    alloc: Global,
-    point: TopEntryPoint,
-    text: &str,
-    edition: Edition,
-) -> Result<Output, AllocError>
-    ensures { length text.now < 2 ^ 32
-        → IfOk result (λ o. reading_of o ≡ whole_at point edition text.now) }
-{
-    let lexed = lex(alloc, text, edition)?;
-    let events = events(alloc, point.rule(), text, &lexed.tokens, edition)?;
-    let root = point.root(outermost(&events));
-    let output = assemble(alloc, root, text, &lexed, &events)?;
-    Ok(output)
-}
-
-#[tactic(auto, unfolding(crate::specs::Tops::read_at))]
-pub(crate) fn read_at(
-    alloc: Global,
-    point: TopEntryPoint,
-    text: &str,
-    edition: Edition,
-) -> Result<Output, AllocError>
-    ensures { IfOk result (λ o. reading_of o ≡ read_at point edition text.now) }
-{
-    if is_short(text) {
-        whole(alloc, point, text, edition)
-    } else {
-        Ok(nothing(alloc))
     }
 }
 
@@ -173,6 +139,19 @@ fn read_into<S: StepSink + Drop>(
     } else {
         Ok((S::with_room(alloc, 0)?, Vec::new(alloc)))
     }
+}
+
+// The same, with the steps in a list.
+pub(crate) fn read_at(
+    alloc: Global,
+    point: TopEntryPoint,
+    text: &str,
+    edition: Edition,
+) -> Result<Output, AllocError>
+    ensures { IfOk result (λ o. reading_of o ≡ read_at point edition text.now) }
+{
+    let (steps, errors) = read_into::<Vec<Step>>(alloc, point, text, edition)?;
+    Ok(Output { steps, errors })
 }
 
 fn parse_into<S: StepSink + Drop>(

@@ -11,6 +11,6 @@ loop-fault-preserved g c =
     let fault = c.fault-item.result in
     let taken : List FrontStep = before ++ map f (take c.loop-fault.fault-index c.args.faults.now) in
     let same = ap (λ m. reports m fault.position) (c.in_ok-message.ensures ∙ ap (parser_message_of fault.message) c.last.ensures) in
-    subst (g.S.StepSink.took c.report.new.self)
+    subst (g.S.StepSink.took c.error.new.self)
     (one_more before (reports (string_bytes c.in_ok-message.message) fault.position) f c.args.faults.now c.loop-fault.fault-index fault c.loop-fault-test.true c.fault-item.is same)
-    (c.in_ok-report.ensures taken (c.loop-fault.invariant before h))
+    (c.in_ok-error.ensures taken (c.loop-fault.invariant before h))
