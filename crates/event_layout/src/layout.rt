@@ -183,7 +183,11 @@ impl<'a, S: StepSink + Drop> Layout<'a, S> {
         ensures { IfOk result
             (λ l. IsLaid S.took l (start_of root (given_of plan.now) tokens.now)) }
     {
-        let elements = plan.starts.nodes.saturating_add(1).saturating_add(tokens.len());
+        let elements = plan
+            .starts
+            .nodes
+            .saturating_add(1)
+            .saturating_add(tokens.len());
         let mut sink = S::with_room(alloc, elements)?;
         sink.start_node(root)?;
         Ok(Layout {
@@ -586,8 +590,9 @@ pub fn lay_out(
     ensures in_text { IfOk result (λ l. length text.now < 2 ^ 32 → IsCut tokens.now text.now
         → All (λ f. f.position ≤ length text.now) l.faults.items) }
 {
-    let HandedOut { sink, faults } =
-        lay_out_into::<Vec<Step>>(alloc, root, attaching, text, tokens, events)?;
+    let HandedOut { sink, faults } = lay_out_into::<Vec<Step>>(
+        alloc, root, attaching, text, tokens, events,
+    )?;
     Ok(LaidOut {
         steps: sink,
         faults,

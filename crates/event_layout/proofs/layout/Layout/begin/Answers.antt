@@ -13,6 +13,6 @@ returns-in_ok-pass g c =
     let new = c.enter-then-is_blank.new.self in
     on_ok_weaker c.enter-then-is_blank.result
     (λ entered. alike took old new (λ s. enter_of c.args.kind (pass_of s)) (begin_of given c.args.kind)
-        (λ steps. sym (begun_behind_blank given c.args.kind (laying_of old steps) (sym c.lead-count.ensures ∙ c.if-count-eq1.true) (sym c.is_blank.ensures ∙ c.if-is_blank.true)))
-        (then took old c.pass.new.self new pass_of (enter_of c.args.kind) c.in_ok-pass.ensures entered))
+    (λ steps. sym (begun_behind_blank given c.args.kind (laying_of old steps) (sym c.lead-count.ensures ∙ c.if-count-eq1.true) (sym c.is_blank.ensures ∙ c.if-is_blank.true)))
+    (then took old c.pass.new.self new pass_of (enter_of c.args.kind) c.in_ok-pass.ensures entered))
     c.enter-then-is_blank.ensures
