@@ -28,9 +28,11 @@ PARTS = (
     ("tokens", "rust_lexer::lexer::lex"),
     ("sights", "rust_grammar::views::sights"),
     ("events", "grammar_machine::machine::run"),
-    ("layout", "event_layout::layout::lay_out"),
-    ("from the text to steps", "rust_front::front::whole"),
-    ("from the text to the tree", "ras_parsing::build::read"),
+    ("where nodes begin", "event_layout::starts::find_starts"),
+    ("steps, and rows of them", "event_layout::layout::walked"),
+    ("of these, rows that begin", "ras_parsing::sink::TreeSink::add"),
+    ("from the text to rows", "rust_front::front::whole_into"),
+    ("from the text to the tree", "ras_parsing::sink::read_tree"),
 )
 
 
@@ -46,7 +48,8 @@ def counted(program, path, folder):
     text = subprocess.run(words, capture_output=True, text=True, errors="replace").stdout
     found = {}
     for count, name in re.findall(r"(?m)^ *([\d,]+) \([ \d.]+%\) +\S+?:(\S+)", text):
-        name = name.partition("'")[0]
+        # Without the types that a generic function was made for.
+        name = name.partition("'")[0].partition("::<")[0]
         found[name] = max(found.get(name, 0), int(count.replace(",", "")))
     return int(whole[1]), found
 
