@@ -1,5 +1,5 @@
 -- What further steps add to a tree that is made as they come.
-use Rattle.std.proofs.Common.{◌≡◌, ℕ, zero, suc, ◌+◌, ◌<◌, ◌≤◌, ◌^◌, List, [], ◌∷◌, ◌++◌, length, take, drop, filter_map, refl, sym, ap, ◌∙◌, subst, arith, append-nil, Option, Some, None, Bool, true, false, cond, nat_lt}
+use Rattle.std.proofs.Common.{◌≡◌, ℕ, ◌+◌, ◌<◌, ◌≤◌, ◌^◌, List, [], ◌∷◌, ◌++◌, length, take, drop, filter_map, refl, sym, ap, ◌∙◌, subst, arith, append-nil, Some, None, Bool, true, false, cond, nat_lt}
 use Rattle.std.specs.Prelude.{⊤, All}
 use Rattle.std.proofs.lemmas.List.{length-drop}
 use Rattle.tree_model.specs.Tree.{Tree}
@@ -11,9 +11,9 @@ use Rattle.tree_rows.specs.Builder as builder
 use Rattle.tree_rows.specs.Making.{Making, after_step, run, nothing_made, MadeOf}
 use Rattle.tree_rows.specs.Run.{text_len}
 use Rattle.ras_front_end.specs.ErrorModel.{ErrorModel, LiesIn, fault_at}
-use Rattle.ras_front_end.specs.Reading.{FrontStep, begins, takes, ends, reports, Reading, IsGiven, front_event, events_from, Cuts, step_faults, stored_faults}
+use Rattle.ras_front_end.specs.Reading.{FrontStep, begins, takes, ends, reports, Reading, front_event, events_from, Cuts, step_faults, stored_faults}
 use Rattle.ras_front_end.specs.Keeps.{Keeps}
-use Rattle.ras_front_end.specs.Parsed.{Parsed, IsParseOf, ErrorsLieIn}
+use Rattle.ras_front_end.specs.Parsed.{IsParseOf, ErrorsLieIn}
 use Rattle.ras_parsing.specs.Sinks.{AreOf}
 use Rattle.ras_parsing.proofs.TreeTexts.{built_text}
 

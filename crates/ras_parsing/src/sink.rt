@@ -3,7 +3,7 @@ ghost use Rattle.std.specs.Prelude.{◌≡◌, ◌<◌, ◌^◌, ◌++◌, ◌�
 ghost use Rattle.tree_model.specs.Cursor.{IsRoot};
 ghost use Rattle.ras_front_end.specs.Parsed.{IsParseOf, ErrorsLieIn};
 ghost use Rattle.ras_front_end.specs.Reading.{FrontStep, front_event, step_faults, ends, reports};
-ghost use Rattle.ras_parsing.specs.Sinks.{AreOf};
+ghost use Rattle.ras_parsing.specs.Sinks.{AreOf, started};
 
 use crate::build::store;
 use lossless_tree::{BuilderEvent, RowBuilder, SyntaxNode, tree_of_rows};
@@ -33,8 +33,7 @@ impl TreeSink {
         Ok(())
     }
 
-    // A function of its own, so that the compiler puts the `push` of a row into it.
-    #[inline(never)]
+    #[inline(always)]
     fn add(&mut self, event: BuilderEvent) -> Result<(), AllocError>
         ensures { OnOk result ((step : FrontStep) → front_event step ≡ Some event
             → (before : List FrontStep) → AreOf self.old.rows self.old.errors.items before
@@ -42,6 +41,22 @@ impl TreeSink {
     {
         self.rows.add(event)?;
         Ok(())
+    }
+
+    // One function for nodes and tokens, so that the compiler puts the `push` of a row into it. It
+    // takes the parts of an event, which are in registers, where an event would be in memory.
+    #[inline(never)]
+    fn start(&mut self, kind: SyntaxKind, is_token: bool, len: TextSize) -> Result<(), AllocError>
+        ensures { OnOk result ((before : List FrontStep)
+            → AreOf self.old.rows self.old.errors.items before
+            → AreOf self.new.rows self.new.errors.items (before ++ started kind is_token len ∷ [])) }
+    {
+        let event = if is_token {
+            BuilderEvent::Token(kind, len.raw() as usize)
+        } else {
+            BuilderEvent::Enter(kind)
+        };
+        self.add(event)
     }
 
     #[inline(always)]
@@ -70,12 +85,12 @@ impl StepSink for TreeSink {
 
     #[inline(always)]
     fn start_node(&mut self, kind: SyntaxKind) -> Result<(), AllocError> {
-        self.add(BuilderEvent::Enter(kind))
+        self.start(kind, false, TextSize::new(0))
     }
 
     #[inline(always)]
     fn token(&mut self, kind: SyntaxKind, len: TextSize) -> Result<(), AllocError> {
-        self.add(BuilderEvent::Token(kind, len.raw() as usize))
+        self.start(kind, true, len)
     }
 
     #[inline(always)]
