@@ -12,6 +12,7 @@ mod Stepping
 mod Bracing
 mod Heading
 pub mod Pieces
+pub mod LexedKinds
 mod BraceKinds
 pub mod Finding
 pub mod Sighting
