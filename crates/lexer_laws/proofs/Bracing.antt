@@ -18,19 +18,10 @@ use Rattle.lexer_laws.specs.Behind.{IsBrace, check_before, before}
 use Rattle.lexer_laws.specs.Cuts.{tokens_within, bytes_of}
 use Rattle.lexer_laws.proofs.Tests.{longer}
 use Rattle.lexer_laws.proofs.Firsts.{token_ends}
-use Rattle.lexer_laws.proofs.Stepping.{token_at, within_more, token_some, front_length}
+use Rattle.lexer_laws.proofs.Stepping.{Tokens, head_same, tail_same, token_at, within_more, token_some, front_length}
 use Rattle.lexer_laws.proofs.Words.{is_whole, cut_inside, cut_whole, boundary_starts}
 
-abbrev Tokens : Type 0
-Tokens = List span.Token
-
 -- ---- lists
-
-head_same : (t r : span.Token) (ts rs : Tokens) → t ∷ ts ≡ r ∷ rs → t ≡ r
-head_same t r ts rs h = cc
-
-tail_same : (t r : span.Token) (ts rs : Tokens) → t ∷ ts ≡ r ∷ rs → ts ≡ rs
-tail_same t r ts rs h = cc
 
 no_token : (t : span.Token) (ts : Tokens) → [] ≡ t ∷ ts → ⊥
 no_token t ts h = absurd (cc)

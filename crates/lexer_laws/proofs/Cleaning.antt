@@ -27,17 +27,8 @@ use Rattle.lexer_laws.proofs.Bracing.{Inside, Beyond, first_token, cut_one, brac
 use Rattle.lexer_laws.proofs.Faults.{FitsIn, token_fits}
 use Rattle.lexer_laws.proofs.Finding.{Replaced, replaced}
 use Rattle.lexer_laws.proofs.Pieces.{IsPiece, piece_front, bytes_append, first_bytes}
-use Rattle.lexer_laws.proofs.Stepping.{token_at, within_empty, within_more, back_short}
+use Rattle.lexer_laws.proofs.Stepping.{Tokens, head_same, tail_same, token_at, within_empty, within_more, back_short}
 use Rattle.lexer_laws.proofs.Words.{is_whole, front_same}
-
-abbrev Tokens : Type 0
-Tokens = List span.Token
-
-head_same : (t r : span.Token) (ts rs : Tokens) → t ∷ ts ≡ r ∷ rs → t ≡ r
-head_same t r ts rs h = cc
-
-tail_same : (t r : span.Token) (ts rs : Tokens) → t ∷ ts ≡ r ∷ rs → ts ≡ rs
-tail_same t r ts rs h = cc
 
 -- ---- tokens without a problem
 

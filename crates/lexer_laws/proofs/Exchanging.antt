@@ -33,19 +33,10 @@ use Rattle.lexer_laws.proofs.Cleaning.{content_same}
 use Rattle.lexer_laws.proofs.Faults.{FitsIn, token_fits}
 use Rattle.lexer_laws.proofs.Finding.{Replaced, replaced}
 use Rattle.lexer_laws.proofs.Pieces.{IsPiece, piece_front, first_bytes}
-use Rattle.lexer_laws.proofs.Stepping.{token_at, within_empty, within_more, back_length, back_short}
-
-abbrev Tokens : Type 0
-Tokens = List span.Token
+use Rattle.lexer_laws.proofs.Stepping.{Tokens, head_same, tail_same, token_at, within_empty, within_more, back_length, back_short}
 
 abbrev Errors : Type 0
 Errors = List LexError
-
-head_same : (t r : span.Token) (ts rs : Tokens) → t ∷ ts ≡ r ∷ rs → t ≡ r
-head_same t r ts rs h = cc
-
-tail_same : (t r : span.Token) (ts rs : Tokens) → t ∷ ts ≡ r ∷ rs → ts ≡ rs
-tail_same t r ts rs h = cc
 
 -- ---- the errors of one token
 

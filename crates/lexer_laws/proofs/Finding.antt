@@ -24,16 +24,7 @@ use Rattle.lexer_laws.proofs.Bracing.{cut_one}
 use Rattle.lexer_laws.proofs.Heading.{plain_heads, heads_end}
 use Rattle.lexer_laws.proofs.BraceKinds.{brace_of, brace_first}
 use Rattle.lexer_laws.proofs.Pieces.{IsPiece, headless, behind_cut, pieces_cut, pieces_put}
-use Rattle.lexer_laws.proofs.Stepping.{token_at, tokens_from, steps_tokens, within_empty, within_more, token_some, front_length, back_short}
-
-abbrev Tokens : Type 0
-Tokens = List span.Token
-
-head_same : (t r : span.Token) (ts rs : Tokens) → t ∷ ts ≡ r ∷ rs → t ≡ r
-head_same t r ts rs h = cc
-
-tail_same : (t r : span.Token) (ts rs : Tokens) → t ∷ ts ≡ r ∷ rs → ts ≡ rs
-tail_same t r ts rs h = cc
+use Rattle.lexer_laws.proofs.Stepping.{Tokens, head_same, tail_same, token_at, tokens_from, steps_tokens, within_empty, within_more, token_some, front_length, back_short}
 
 -- ---- a head is no brace
 

@@ -31,8 +31,8 @@ use Rattle.lexer_laws.specs.Quiet.{is_in, errs_early, is_quiet_from, ended_by}
 use Rattle.lexer_laws.proofs.Bracing.{cut_one, brace_token}
 use Rattle.lexer_laws.proofs.Finding.{Replaced, replaced}
 use Rattle.lexer_laws.proofs.Pieces.{IsPiece, IsClosed, piece_closed, closed_front, first_bytes, bytes_append, headless}
-use Rattle.lexer_laws.proofs.Stepping.{token_at, within_more, token_some, back_short}
-use Rattle.lexer_laws.proofs.Telling.{Tokens, Errors, at_range, message, wrong, wrong_none, between, size, rest_of, here, told, told_none, told_more, all, all_more, size_few, take_long, steps_told, silent, Each, each_more, IsFrom, all_from, EndsBy, Before, before_brace, Parted, parted}
+use Rattle.lexer_laws.proofs.Stepping.{Tokens, token_at, within_more, token_some, back_short}
+use Rattle.lexer_laws.proofs.Telling.{Errors, at_range, message, wrong, wrong_none, between, size, rest_of, here, told, told_none, told_more, all, all_more, size_few, take_long, steps_told, silent, Each, each_more, IsFrom, all_from, EndsBy, Before, before_brace, Parted, parted}
 
 -- ---- five tokens are enough
 

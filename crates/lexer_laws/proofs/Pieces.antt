@@ -15,16 +15,7 @@ use Rattle.lexer_laws.specs.Behind.{IsBrace}
 use Rattle.lexer_laws.specs.Cuts.{tokens_within, bytes_of}
 use Rattle.lexer_laws.specs.Heads.{HasNoHead}
 use Rattle.lexer_laws.proofs.Bracing.{braces_cut, brace_alone}
-use Rattle.lexer_laws.proofs.Stepping.{token_at, within_empty, within_more, token_some, front_length, back_length}
-
-abbrev Tokens : Type 0
-Tokens = List span.Token
-
-head_same : (t r : span.Token) (ts rs : Tokens) → t ∷ ts ≡ r ∷ rs → t ≡ r
-head_same t r ts rs h = cc
-
-tail_same : (t r : span.Token) (ts rs : Tokens) → t ∷ ts ≡ r ∷ rs → ts ≡ rs
-tail_same t r ts rs h = cc
+use Rattle.lexer_laws.proofs.Stepping.{Tokens, head_same, tail_same, token_at, within_empty, within_more, token_some, front_length, back_length}
 
 -- ---- how long tokens are
 

@@ -11,12 +11,22 @@ use Rattle.rust_lexer.proofs.Cutting.{cut-boundary, cut-some}
 use Rattle.rust_lexer.proofs.Steps.{steps-one, steps-stop, steps-end}
 use Rattle.lexer_laws.specs.Cuts.{tokens_within}
 
+abbrev pub Tokens : Type 0
+Tokens = List span.Token
+
+-- equal lists begin with equal tokens, and go on alike
+pub head_same : (t r : span.Token) (ts rs : Tokens) → t ∷ ts ≡ r ∷ rs → t ≡ r
+head_same t r ts rs h = cc
+
+pub tail_same : (t r : span.Token) (ts rs : Tokens) → t ∷ ts ≡ r ∷ rs → ts ≡ rs
+tail_same t r ts rs h = cc
+
 -- the first token of a text, as the lexer lists it
 abbrev pub token_at : Edition → List ℕ → span.Token
 token_at e s = record { kind = (token_of e s).kind; len = size_of (length (front_of (token_of e s).left s)) }
 
 -- the tokens of a text, at most n
-unfoldable pub tokens_from : ℕ → Edition → List ℕ → List span.Token
+unfoldable pub tokens_from : ℕ → Edition → List ℕ → Tokens
 tokens_from zero e s = []
 tokens_from (suc n) e s = if length s == 0 then [] else token_at e s ∷ tokens_from n e (back_of (token_of e s).left s)
 

@@ -28,20 +28,11 @@ use Rattle.lexer_laws.proofs.Bracing.{Inside, Beyond, first_token}
 use Rattle.lexer_laws.proofs.Cleaning.{content_same}
 use Rattle.lexer_laws.proofs.Faults.{FitsIn, token_fits}
 use Rattle.lexer_laws.proofs.Pieces.{first_bytes}
-use Rattle.lexer_laws.proofs.Stepping.{token_at, within_empty, within_more, token_some, back_length, back_short}
+use Rattle.lexer_laws.proofs.Stepping.{Tokens, head_same, tail_same, token_at, within_empty, within_more, token_some, back_length, back_short}
 use Rattle.lexer_laws.proofs.Words.{boundary_starts}
-
-abbrev pub Tokens : Type 0
-Tokens = List span.Token
 
 abbrev pub Errors : Type 0
 Errors = List LexError
-
-head_same : (t r : span.Token) (ts rs : Tokens) → t ∷ ts ≡ r ∷ rs → t ≡ r
-head_same t r ts rs h = cc
-
-tail_same : (t r : span.Token) (ts rs : Tokens) → t ∷ ts ≡ r ∷ rs → ts ≡ rs
-tail_same t r ts rs h = cc
 
 -- ---- the errors of one token
 

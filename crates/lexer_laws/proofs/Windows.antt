@@ -25,8 +25,8 @@ use Rattle.lexer_laws.proofs.Heading.{plain_heads}
 use Rattle.lexer_laws.proofs.Messages.{text_told, all_ended, quiet_behind, quiet_none, closed_told}
 use Rattle.lexer_laws.proofs.Pieces.{IsClosed, closed_cut, all_bytes, behind_cut, headless}
 use Rattle.lexer_laws.proofs.Sighting.{window_seen}
-use Rattle.lexer_laws.proofs.Stepping.{token_at, within_empty, within_more, token_some}
-use Rattle.lexer_laws.proofs.Telling.{Tokens, Errors, all, silent, Each, each_more, all_from, EndsBy, Before, before_brace, Parted, parted}
+use Rattle.lexer_laws.proofs.Stepping.{Tokens, token_at, within_empty, within_more, token_some}
+use Rattle.lexer_laws.proofs.Telling.{Errors, all, silent, Each, each_more, all_from, EndsBy, Before, before_brace, Parted, parted}
 
 -- ---- braces
 
