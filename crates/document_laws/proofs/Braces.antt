@@ -1,8 +1,6 @@
 -- How the grammar's machine sees the first and the last token of a text from `{` to `}`.
-use Rattle.std.proofs.Common.{◌≡◌, ◌⊎◌, inl, inr, ℕ, zero, suc, ◌-◌, ◌<◌, Bool, true, false, ◌==◌, ◌&&◌, ◌||◌, nat_lt, nat_le, if◌then◌else◌, List, [], ◌∷◌, ◌++◌, length, drop, take, ap, ap₂, sym, subst, ◌∙◌, refl, arith, append_assoc}
+use Rattle.std.proofs.Common.{◌≡◌, ℕ, suc, ◌-◌, true, List, [], ◌∷◌, ◌++◌, length, drop, take, ap, ap₂, sym, subst, ◌∙◌, refl, arith, append_assoc}
 use Rattle.std.specs.Prelude.{Some, slice_get}
-use Rattle.std.proofs.lemmas.Bool.{cases_eq}
-use Rattle.std.proofs.lemmas.Bool.Decides.{nat_tests}
 use Rattle.std.proofs.lemmas.List.{length-append}
 use Rattle.syntax_kind.specs.declared.syntax_kind.SyntaxKind.{SyntaxKind}
 use Rattle.syntax_kind.specs.declared.syntax_kind.SyntaxKind.TheVariants as kinds
@@ -15,61 +13,9 @@ use Rattle.grammar_machine.specs.Running.{is_brace_of, seen_of as seen_in}
 use Rattle.grammar_machine.specs.Exchanging.{EndAlike}
 use Rattle.event_layout.specs.Placed.{NextIsPlain}
 use Rattle.lexer_laws.specs.Pieces.{Opens, Closes, IsBraced}
-use Rattle.lexer_laws.proofs.Sighting.{no_left}
+use Rattle.lexer_laws.proofs.Sighting.{no_left, no_right_open}
 use Rattle.rust_grammar.specs.Seeing.{number_of, number_on, joined_of, seen_of, sights_of}
 use Rattle.rust_grammar.specs.Tables.{rust_tables}
-
--- ---- nothing is joined with a `{`
-
-second_holds : (p r : Bool) (n : ℕ) → r ≡ true → (if p || r then 0 else n) ≡ 0
-second_holds true r n h = refl
-second_holds false r n h = ap (λ (x : Bool). if x then 0 else n) h
-
--- the token makes nothing with the signs below n
-empty_below : ℕ → ℕ → Bool
-empty_below left zero = true
-empty_below left (suc n) = (joined_of left n == 0) && empty_below left n
-
-first_true : (p r : Bool) → (p && r) ≡ true → p ≡ true
-first_true true r h = refl
-first_true false r h = absurd (cc)
-
-last_true : (p r : Bool) → (p && r) ≡ true → r ≡ true
-last_true true r h = h
-last_true false r h = absurd (cc)
-
-is_zero : (n : ℕ) → (n == 0) ≡ true → n ≡ 0
-is_zero n h = grind (arith, nat_tests)
-
-empty_at : (left n i : ℕ) → empty_below left n ≡ true → i < n → joined_of left i ≡ 0
-unfolding empty_below
-empty_at left zero i h l = absurd (omega (arith, l))
-empty_at left (suc n) i h l =
-    elim (cases_eq i n) [
-      | inl same ↦ ap (joined_of left) same ∙ is_zero (joined_of left n) (first_true (joined_of left n == 0) (empty_below left n) h)
-      | inr other ↦ empty_at left n i (last_true (joined_of left n == 0) (empty_below left n) h) (omega (arith, l, other))
-    ]
-
-none_opened : empty_below 20 43 ≡ true
-unfolding empty_below
-none_opened = refl
-
-either_true : (p : Bool) → (p ≡ true) ⊎ (p ≡ false)
-either_true true = inl refl
-either_true false = inr refl
-
-beyond_signs : (sign : ℕ) → nat_lt sign 43 ≡ false → nat_le 19 (sign - 24) ≡ true
-beyond_signs sign h = grind (arith, nat_tests)
-
-is_below : (n k : ℕ) → nat_lt n k ≡ true → n < k
-is_below n k h = grind (arith, nat_tests)
-
-row_on : (left sign : ℕ) → empty_below left 43 ≡ true → (nat_lt sign 43 ≡ true) ⊎ (nat_lt sign 43 ≡ false) → joined_of left sign ≡ 0
-row_on left sign h (inl k) = empty_at left 43 sign h (is_below sign 43 k)
-row_on left sign h (inr k) = second_holds (nat_lt sign 24) (nat_le 19 (sign - 24)) _ (beyond_signs sign k)
-
-no_opened : (sign : ℕ) → joined_of 20 sign ≡ 0
-no_opened sign = row_on 20 sign none_opened (either_true (nat_lt sign 43))
 
 -- ---- the two sights
 
@@ -87,7 +33,7 @@ closing_number k h = ap number_of h
 
 sees_open : (e : Edition) (w : List ℕ) (s t : ℕ) → seen_of e w 20 s t ≡ open_sight ∷ []
 sees_open e w s t =
-    ap₂ (λ (x y : ℕ). record { one = 20; two = x; three = y; word = 0 } ∷ []) (no_opened s) (ap (λ (j : ℕ). joined_of j t) (no_opened s) ∙ no_left t)
+    ap₂ (λ (x y : ℕ). record { one = 20; two = x; three = y; word = 0 } ∷ []) (no_right_open s) (ap (λ (j : ℕ). joined_of j t) (no_right_open s) ∙ no_left t)
 
 sees_close : (e : Edition) (w : List ℕ) → seen_of e w 21 0 0 ≡ close_sight ∷ []
 sees_close e w = refl

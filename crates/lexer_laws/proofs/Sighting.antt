@@ -85,7 +85,7 @@ none_behind_open : empty_below 20 43 ≡ true
 unfolding empty_below
 none_behind_open = refl
 
-no_right_open : (sign : ℕ) → joined_of 20 sign ≡ 0
+pub no_right_open : (sign : ℕ) → joined_of 20 sign ≡ 0
 no_right_open sign = row_on 20 sign none_behind_open (either_true (nat_lt sign 43))
 
 no_right : (sign : ℕ) → joined_of 21 sign ≡ 0
