@@ -9,6 +9,7 @@ mod Leaves
 mod Leaving
 mod Starting
 mod Piecing
+mod Making
 mod Plain
 mod Replacing
 mod Sights

@@ -30,10 +30,10 @@ right_true : (a b : Bool) → (a && b) ≡ true → b ≡ true
 right_true true b h = h
 right_true false b h = (let bad : false ≡ true = h in cc)
 
-some_same : (a b : Op) → Some a ≡ Some b → a ≡ b
+some_same : {X : Type 0} (a b : X) → Some a ≡ Some b → a ≡ b
 some_same a b e = cc
 
-pub passes : (test : Op → Bool) (xs : List Op) (i : ℕ) (x : Op) → list_all test xs ≡ true → slice_get xs i ≡ Some x → test x ≡ true
+pub passes : {X : Type 0} (test : X → Bool) (xs : List X) (i : ℕ) (x : X) → list_all test xs ≡ true → slice_get xs i ≡ Some x → test x ≡ true
 passes test [] i x h e = (let bad : None ≡ Some x = e in cc)
 passes test (y ∷ xs) zero x h e = ap test (sym (some_same y x e)) ∙ left_true (test y) (list_all test xs) h
 passes test (y ∷ xs) (suc i) x h e = passes test xs i x (right_true (test y) (list_all test xs) h) e
@@ -47,7 +47,7 @@ all_seal : list_all seals_rightly rust_tables.ops ≡ true
 unfolding rust_tables
 all_seal = refl
 
-not_true : (b : Bool) → not b ≡ true → b ≡ false
+pub not_true : (b : Bool) → not b ≡ true → b ≡ false
 not_true true h = (let bad : false ≡ true = h in cc)
 not_true false h = refl
 
