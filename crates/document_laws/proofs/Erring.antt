@@ -67,31 +67,34 @@ call_begins g ts rule k es c e =
 
 -- ---- the last token is `}`
 
--- a part is replaced by itself
-pub same_part : (e : Edition) (a w c : List ℕ) (ts us : List RawToken) → IsInParts e a w c ts us → length w < 2 ^ 32 → IsReplaced e a w w c ts (tokens_of e w) us
-same_part e a w c ts us i small = record {
-  is_text = i.is_text;
-  is_new_text = i.is_text;
-  is_piece_text = i.is_part;
-  is_rest_text = i.is_rest;
-  short = i.short;
-  new_short = i.short;
-  no_head = i.no_head;
-  are_tokens = i.tokens;
-  cut_before = i.before;
-  cut_behind = bytes_are (tokens_of e w) ∙ cut_sum (tokens_of e w) w (lexed e w i.is_part small).cut;
-  opens = i.braced.0;
-  braced = i.braced;
-}
-
 pub part_len : (a w c : List ℕ) → length (a ++ (w ++ c)) ≡ length a + (length w + length c)
 part_len a w c = omega (arith, length-append a (w ++ c), length-append w c)
 
+-- another part comes in the place of one, or the same
+pub two_parts : (e : Edition) (a w q c : List ℕ) (ts us : List RawToken) → IsInParts e a w c ts us → IsInParts e a q c ts us
+    → IsReplaced e a w q c ts (tokens_of e w) us
+two_parts e a w q c ts us i j =
+    let short = i.short in
+    let small : length w < 2 ^ 32 = omega (arith, short, part_len a w c) in
+    record {
+      is_text = i.is_text;
+      is_new_text = j.is_text;
+      is_piece_text = j.is_part;
+      is_rest_text = i.is_rest;
+      short = i.short;
+      new_short = j.short;
+      no_head = i.no_head;
+      are_tokens = i.tokens;
+      cut_before = i.before;
+      cut_behind = bytes_are (tokens_of e w) ∙ cut_sum (tokens_of e w) w (lexed e w i.is_part small).cut;
+      opens = i.braced.0;
+      braced = j.braced;
+    }
+
 pub closed_part : (e : Edition) (a w c : List ℕ) (ts us : List RawToken) → IsInParts e a w c ts us → EndsClosed w (tokens_of e w)
 closed_part e a w c ts us i =
-    let short = i.short in
     let x : Replaced e a w w c ts (tokens_of e w) us =
-    replaced e a w w c ts (tokens_of e w) us (same_part e a w c ts us i (omega (arith, short, part_len a w c))) in
+    replaced e a w w c ts (tokens_of e w) us (two_parts e a w w c ts us i i) in
     record {
       front = x.is_piece.front;
       close = x.is_piece.close;

@@ -10,20 +10,16 @@ use Rattle.ras_front_end.specs.ErrorModel.{ErrorModel}
 use Rattle.ras_front_end.specs.Reading.{Reading, step_faults, stored_faults}
 use Rattle.token_layout.specs.declared.span.Token.{Token as RawToken}
 use Rattle.grammar_machine.specs.declared.event.Event.{Event}
-use Rattle.event_layout.proofs.Filled.{cut_sum}
-use Rattle.lexer_laws.specs.Pieces.{IsReplaced}
 use Rattle.rust_lexer.specs.declared.lexer.LexError.{LexError}
 use Rattle.rust_lexer.specs.Lexing.{tokens_of}
-use Rattle.rust_lexer.proofs.Kept.{lexed}
 use Rattle.rust_front.specs.Front.{reading_with, parsed_of}
 use Rattle.rust_front.specs.Messages.{lexer_error_of}
 use Rattle.ras_parsing.specs.Document.{in_order, is_quiet_from}
 use Rattle.document_laws.specs.Faults.{PiecesShiftTheRest, ErrorsAreReplaced}
 use Rattle.document_laws.specs.Parts.{IsInParts}
 use Rattle.document_laws.specs.Stored.{stored}
-use Rattle.document_laws.proofs.Erring.{part_len}
+use Rattle.document_laws.proofs.Erring.{two_parts}
 use Rattle.document_laws.proofs.Faults.{parsed_is, errors_replaced}
-use Rattle.document_laws.proofs.Opening.{bytes_are}
 use Rattle.document_laws.proofs.Storing.{stored_replaced}
 
 pub rest_shifted : PiecesShiftTheRest
@@ -43,27 +39,6 @@ with_errors root text ts errors es = refl
 
 pub parsed_errors : (e : Edition) (text : List ℕ) → length text < 2 ^ 32 → (parsed_of SourceFile e text).errors ≡ stored e text
 parsed_errors e text small = ap (λ (x : Reading). x.errors) (parsed_is e text small) ∙ with_errors _ text (tokens_of e text) _ _
-
--- another piece comes in the place of one
-two_parts : (e : Edition) (a w q c : List ℕ) (ts us : List RawToken) → IsInParts e a w c ts us → IsInParts e a q c ts us
-    → IsReplaced e a w q c ts (tokens_of e w) us
-two_parts e a w q c ts us i j =
-    let short = i.short in
-    let small : length w < 2 ^ 32 = omega (arith, short, part_len a w c) in
-    record {
-      is_text = i.is_text;
-      is_new_text = j.is_text;
-      is_piece_text = j.is_part;
-      is_rest_text = i.is_rest;
-      short = i.short;
-      new_short = j.short;
-      no_head = i.no_head;
-      are_tokens = i.tokens;
-      cut_before = i.before;
-      cut_behind = bytes_are (tokens_of e w) ∙ cut_sum (tokens_of e w) w (lexed e w i.is_part small).cut;
-      opens = i.braced.0;
-      braced = j.braced;
-    }
 
 pub all_replaced : ErrorsAreReplaced
 all_replaced e a w q c ts us k r was now edit i x y d chosen few few_new shift quiet =
