@@ -120,37 +120,54 @@ counted e text (t ∷ ts) h =
 first_sight : (x s : Sight) → Some x ≡ Some s → x ≡ s
 first_sight x s e = cc
 
-joins_here : (e : Edition) (text : List ℕ) (behind : List Token) (s : Sight) → KnownAll behind → lead behind ≡ 0 → slice_get (sights_of e text behind) 0 ≡ Some s → JoinsNext s behind
-joins_here e text [] s h l g = absurd (let bad : None ≡ Some s = g in cc)
-joins_here e text (t ∷ ts) s h l g =
+-- the sight behind a part of the tokens is that of the next token
+pub record FirstHas (back : List Token) (number : ℕ) : Type 0 where
+  pub first : Token
+  pub later : List Token
+  pub is : back ≡ first ∷ later
+  pub number_is : number ≡ number_of first.kind
+
+next_here : (e : Edition) (text : List ℕ) (back : List Token) (s : Sight) → KnownAll back → lead back ≡ 0 → slice_get (sights_of e text back) 0 ≡ Some s
+    → JoinsNext s back × FirstHas back s.one
+next_here e text [] s h l g = absurd (let bad : None ≡ Some s = g in cc)
+next_here e text (t ∷ ts) s h l g =
     elim (either_true (is_trivia t.kind)) [
       | inl k ↦ absurd (let more : lead (t ∷ ts) ≡ lead ts + 1 = lead_more t ts ∙ ap (λ (b : Bool). if b then lead ts + 1 else 0) k in omega (arith, more, l))
       | inr k ↦
           let x : Sight = sight_of e (take t.len text) (number_of t.kind) (number_on (slice_get ts 0)) (number_on (slice_get ts 1)) in
-          let same : x ≡ s = first_sight x s (sym (ap (λ (ss : List Sight). slice_get ss 0) (sight_here e text t ts (h.0 k))) ∙ g) in
-          subst (λ (y : Sight). JoinsNext y (t ∷ ts)) same (sight_joins e (take t.len text) t ts k)
+          let same : x ≡ s = first_sight x s (sym (ap (λ (ss : List Sight). slice_get ss 0) (sight_here e text t ts (h.0 k))) ∙ g) in (
+            subst (λ (y : Sight). JoinsNext y (t ∷ ts)) same (sight_joins e (take t.len text) t ts k),
+            record { first = t; later = ts; is = refl; number_is = sym (ap (λ (y : Sight). y.one) same) },
+          )
     ]
 
-joins_at : (e : Edition) (text : List ℕ) (before behind : List Token) (s : Sight) → KnownAll (before ++ behind) → lead behind ≡ 0
-    → slice_get (sights_of e text (before ++ behind)) (length (seen_tokens before)) ≡ Some s → JoinsNext s behind
-joins_at e text [] behind s h l g = joins_here e text behind s h l g
-joins_at e text (t ∷ before) behind s h l g =
+next_at : (e : Edition) (text : List ℕ) (front back : List Token) (s : Sight) → KnownAll (front ++ back) → lead back ≡ 0
+    → slice_get (sights_of e text (front ++ back)) (length (seen_tokens front)) ≡ Some s → JoinsNext s back × FirstHas back s.one
+next_at e text [] back s h l g = next_here e text back s h l g
+next_at e text (t ∷ front) back s h l g =
     elim (either_true (is_trivia t.kind)) [
-      | inl k ↦ joins_at e (drop t.len text) before behind s h.1 l
-          (sym (ap (λ (ss : List Sight). slice_get ss (length (seen_tokens before))) (sight_skip e text t (before ++ behind) k))
-          ∙ sym (ap (λ (us : List Token). slice_get (sights_of e text (t ∷ (before ++ behind))) (length us)) (seen_skip t before k)) ∙ g)
-      | inr k ↦ joins_at e (drop t.len text) before behind s h.1 l
-          (sym (ap (λ (ss : List Sight). slice_get ss (suc (length (seen_tokens before)))) (sight_here e text t (before ++ behind) (h.0 k)))
-          ∙ sym (ap (λ (us : List Token). slice_get (sights_of e text (t ∷ (before ++ behind))) (length us)) (seen_keep t before k)) ∙ g)
+      | inl k ↦ next_at e (drop t.len text) front back s h.1 l
+          (sym (ap (λ (ss : List Sight). slice_get ss (length (seen_tokens front))) (sight_skip e text t (front ++ back) k))
+          ∙ sym (ap (λ (us : List Token). slice_get (sights_of e text (t ∷ (front ++ back))) (length us)) (seen_skip t front k)) ∙ g)
+      | inr k ↦ next_at e (drop t.len text) front back s h.1 l
+          (sym (ap (λ (ss : List Sight). slice_get ss (suc (length (seen_tokens front)))) (sight_here e text t (front ++ back) (h.0 k)))
+          ∙ sym (ap (λ (us : List Token). slice_get (sights_of e text (t ∷ (front ++ back))) (length us)) (seen_keep t front k)) ∙ g)
     ]
+
+next_of : (e : Edition) (text : List ℕ) (ts front back : List Token) (s : Sight) → AreKnown ts → ts ≡ front ++ back → lead back ≡ 0
+    → slice_get (sights_of e text ts) (length (seen_tokens front)) ≡ Some s → JoinsNext s back × FirstHas back s.one
+next_of e text ts front back s known is l g =
+    next_at e text front back s (subst KnownAll is (known_all ts known)) l (ap (λ (us : List Token). slice_get (sights_of e text us) (length (seen_tokens front))) (sym is) ∙ g)
 
 pub sights_are : SightsAreOfTokens
-sights_are e text ts known =
-    let h : KnownAll ts = known_all ts known in
-    record {
-      count = counted e text ts h;
-      joins = λ before behind s is l g. joins_at e text before behind s (subst KnownAll is h) l (ap (λ (us : List Token). slice_get (sights_of e text us) (length (seen_tokens before))) (sym is) ∙ g);
-    }
+sights_are e text ts known = record {
+  count = counted e text ts (known_all ts known);
+  joins = λ front back s is l g. (next_of e text ts front back s known is l g).0;
+}
+
+pub first_has : (e : Edition) (text : List ℕ) (ts front back : List Token) (s : Sight) → AreKnown ts → ts ≡ front ++ back → lead back ≡ 0
+    → slice_get (sights_of e text ts) (length (seen_tokens front)) ≡ Some s → FirstHas back s.one
+first_has e text ts front back s known is l g = (next_of e text ts front back s known is l g).1
 
 -- ---- the sight of a token
 
@@ -171,39 +188,3 @@ sights_fine e text (t ∷ ts) i s h = by (number_of t.kind == 0) i h (λ j. sigh
         subst (IsFine e) (first_sight (sight_of e (take t.len text) (number_of t.kind) (number_on (slice_get ts 0)) (number_on (slice_get ts 1))) s q)
         (record { its_text = take t.len text; is = refl })
     by false (suc j) q k = k j q
-
--- the sight behind a part of the tokens is that of the next token
-pub record FirstHas (back : List Token) (number : ℕ) : Type 0 where
-  pub first : Token
-  pub later : List Token
-  pub is : back ≡ first ∷ later
-  pub number_is : number ≡ number_of first.kind
-
-first_here : (e : Edition) (text : List ℕ) (back : List Token) (s : Sight) → KnownAll back → lead back ≡ 0 → slice_get (sights_of e text back) 0 ≡ Some s → FirstHas back s.one
-first_here e text [] s h l g = absurd (let bad : None ≡ Some s = g in cc)
-first_here e text (t ∷ ts) s h l g =
-    elim (either_true (is_trivia t.kind)) [
-      | inl k ↦ absurd (let more : lead (t ∷ ts) ≡ lead ts + 1 = lead_more t ts ∙ ap (λ (b : Bool). if b then lead ts + 1 else 0) k in omega (arith, more, l))
-      | inr k ↦
-          let x : Sight = sight_of e (take t.len text) (number_of t.kind) (number_on (slice_get ts 0)) (number_on (slice_get ts 1)) in
-          let same : x ≡ s = first_sight x s (sym (ap (λ (ss : List Sight). slice_get ss 0) (sight_here e text t ts (h.0 k))) ∙ g) in
-          record { first = t; later = ts; is = refl; number_is = sym (ap (λ (y : Sight). y.one) same) }
-    ]
-
-first_at : (e : Edition) (text : List ℕ) (front back : List Token) (s : Sight) → KnownAll (front ++ back) → lead back ≡ 0
-    → slice_get (sights_of e text (front ++ back)) (length (seen_tokens front)) ≡ Some s → FirstHas back s.one
-first_at e text [] back s h l g = first_here e text back s h l g
-first_at e text (t ∷ front) back s h l g =
-    elim (either_true (is_trivia t.kind)) [
-      | inl k ↦ first_at e (drop t.len text) front back s h.1 l
-          (sym (ap (λ (ss : List Sight). slice_get ss (length (seen_tokens front))) (sight_skip e text t (front ++ back) k))
-          ∙ sym (ap (λ (us : List Token). slice_get (sights_of e text (t ∷ (front ++ back))) (length us)) (seen_skip t front k)) ∙ g)
-      | inr k ↦ first_at e (drop t.len text) front back s h.1 l
-          (sym (ap (λ (ss : List Sight). slice_get ss (suc (length (seen_tokens front)))) (sight_here e text t (front ++ back) (h.0 k)))
-          ∙ sym (ap (λ (us : List Token). slice_get (sights_of e text (t ∷ (front ++ back))) (length us)) (seen_keep t front k)) ∙ g)
-    ]
-
-pub first_has : (e : Edition) (text : List ℕ) (ts front back : List Token) (s : Sight) → AreKnown ts → ts ≡ front ++ back → lead back ≡ 0
-    → slice_get (sights_of e text ts) (length (seen_tokens front)) ≡ Some s → FirstHas back s.one
-first_has e text ts front back s known is l g =
-    first_at e text front back s (subst KnownAll is (known_all ts known)) l (ap (λ (us : List Token). slice_get (sights_of e text us) (length (seen_tokens front))) (sym is) ∙ g)
