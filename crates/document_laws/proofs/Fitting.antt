@@ -16,7 +16,7 @@ use Rattle.grammar_machine.specs.Reading.{IsSealedRule}
 use Rattle.grammar_machine.specs.Exchanging.{EndAlike, ExchangedAt}
 use Rattle.grammar_machine.proofs.Exchanging.{exchanged as exchanged_at}
 use Rattle.event_layout.specs.Layout.{root_from, root_of, is_node_at}
-use Rattle.event_layout.specs.Filled.{Setting, LaidAround as FilledAround, IsSetting, events_in, laid}
+use Rattle.event_layout.specs.Filled.{Setting, LaidAround as FilledAround, IsSetting, events_in}
 use Rattle.event_layout.specs.Exchanged.{OneSetting, setting_of, made_before}
 use Rattle.event_layout.specs.Replaced.{Part, sights_in, IsReadAlone, IsPlace, IsSmall, LaidAround}
 use Rattle.event_layout.proofs.Replaced.{stretch_of, piece_is, laid_in}
