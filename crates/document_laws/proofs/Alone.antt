@@ -1,6 +1,7 @@
 -- What the front end tests of an exact piece is what the laws ask for.
 use Rattle.std.proofs.Common.{◌≡◌, ℕ, ◌+◌, ◌-◌, ◌<◌, ◌^◌, Bool, true, false, not, ◌&&◌, ◌||◌, nat_lt, nat_eq, if◌then◌else◌, List, [], ◌∷◌, ◌++◌, length, ap, ap₂, ◌∙◌, refl, subst, sym, arith, append_assoc}
 use Rattle.std.specs.Prelude.{Option, Some, None, slice_get, reverse, option_map, option_and_then}
+use Rattle.std.proofs.lemmas.Bool.{and_parts}
 use Rattle.std.proofs.lemmas.Bool.Decides.{nat_tests}
 use Rattle.std.proofs.lemmas.List.{reverse-append, length-reverse}
 use Rattle.syntax_kind.specs.declared.syntax_kind.SyntaxKind.{SyntaxKind}
@@ -60,11 +61,6 @@ close_only : (k : SyntaxKind) → is_close k ≡ true → k ≡ Token token.R_CU
 close_only (Token token.R_CURLY) h = refl
 close_only _ h = absurd (no h)
 
-both_true : (a b : Bool) → a && b ≡ true → (a ≡ true) × (b ≡ true)
-both_true true true h = (refl, refl)
-both_true true false h = absurd (no h)
-both_true false b h = absurd (no h)
-
 opened : (ts : List RawToken) → opens_with (slice_get ts 0) ≡ true → Opens ts
 opened [] h = absurd (no h)
 opened (t ∷ ts) h = record { first = t; rest = ts; begins = refl; is_open = open_only t.kind h }
@@ -82,7 +78,7 @@ closed (t ∷ ts) h =
 
 pub braced_is : (ts : List RawToken) → is_braced_by ts ≡ true → IsBraced ts
 braced_is ts h =
-    let w = both_true (opens_with (slice_get ts 0)) (closes_with (slice_get ts (length ts - 1))) h in
+    let w = and_parts (opens_with (slice_get ts 0)) (closes_with (slice_get ts (length ts - 1))) h in
     (opened ts w.0, closed ts w.1)
 
 plain_open : (k : SyntaxKind) → k ≡ Token token.L_CURLY → is_trivia k ≡ false

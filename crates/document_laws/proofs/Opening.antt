@@ -3,6 +3,7 @@ use Rattle.std.proofs.Common.{◌≡◌, ℕ, zero, suc, min, ◌+◌, ◌-◌, 
 use Rattle.std.specs.Prelude.{Option, Some, None, slice_get, reverse, All, IsUtf8}
 use Rattle.std.specs.List.{list_all}
 use Rattle.std.proofs.Math.Seq.{take-append_seam, drop-append_seam}
+use Rattle.std.proofs.lemmas.Bool.{and_parts}
 use Rattle.std.proofs.lemmas.List.Elements.{All-head, All-tail}
 use Rattle.std.proofs.lemmas.List.{length-append, length-reverse, length-take}
 use Rattle.syntax_kind.specs.declared.syntax_kind.SyntaxKind.{SyntaxKind}
@@ -65,14 +66,6 @@ only_at test (x ∷ xs) (suc n) = not (test x) && only_at test xs n
 no : false ≡ true → ⊥
 no h = cc
 
-left_true : (a b : Bool) → a && b ≡ true → a ≡ true
-left_true true b h = refl
-left_true false b h = absurd (no h)
-
-right_true : (a b : Bool) → a && b ≡ true → b ≡ true
-right_true true b h = h
-right_true false b h = absurd (no h)
-
 not_both : (a : Bool) → not a ≡ true → a ≡ true → ⊥
 not_both true h k = no h
 not_both false h k = no k
@@ -82,16 +75,16 @@ same x y e = cc
 
 none_passes : {A : Type 0} (test : A → Bool) (xs : List A) (i : ℕ) (x : A) → list_all (λ y. not (test y)) xs ≡ true → slice_get xs i ≡ Some x → test x ≡ true → ⊥
 none_passes test [] i x h e p = (let bad : None ≡ Some x = e in cc)
-none_passes test (y ∷ xs) zero x h e p = not_both (test y) (left_true (not (test y)) (list_all (λ z. not (test z)) xs) h) (ap test (same y x e) ∙ p)
-none_passes test (y ∷ xs) (suc i) x h e p = none_passes test xs i x (right_true (not (test y)) (list_all (λ z. not (test z)) xs) h) e p
+none_passes test (y ∷ xs) zero x h e p = not_both (test y) (and_parts (not (test y)) (list_all (λ z. not (test z)) xs) h).0 (ap test (same y x e) ∙ p)
+none_passes test (y ∷ xs) (suc i) x h e p = none_passes test xs i x (and_parts (not (test y)) (list_all (λ z. not (test z)) xs) h).1 e p
 
 found_at : {A : Type 0} (test : A → Bool) (xs : List A) (n i : ℕ) (x : A) → only_at test xs n ≡ true → slice_get xs i ≡ Some x → test x ≡ true → i ≡ n
 found_at test [] n i x h e p = absurd (let bad : None ≡ Some x = e in cc)
 found_at test (y ∷ xs) zero zero x h e p = refl
 found_at test (y ∷ xs) zero (suc i) x h e p = absurd (none_passes test xs i x h e p)
 found_at test (y ∷ xs) (suc n) zero x h e p =
-    absurd (not_both (test y) (left_true (not (test y)) (only_at test xs n) h) (ap test (same y x e) ∙ p))
-found_at test (y ∷ xs) (suc n) (suc i) x h e p = ap suc (found_at test xs n i x (right_true (not (test y)) (only_at test xs n) h) e p)
+    absurd (not_both (test y) (and_parts (not (test y)) (only_at test xs n) h).0 (ap test (same y x e) ∙ p))
+found_at test (y ∷ xs) (suc n) (suc i) x h e p = ap suc (found_at test xs n i x (and_parts (not (test y)) (only_at test xs n) h).1 e p)
 
 one_kind : only_at is_open rust_tables.kinds 20 ≡ true
 unfolding rust_tables

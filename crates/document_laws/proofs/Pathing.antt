@@ -1,6 +1,7 @@
 -- The cursor of an edit that parses an exact piece again.
 use Rattle.std.proofs.Common.{◌≡◌, ℕ, zero, suc, ◌-◌, ◌<◌, Bool, true, false, ◌&&◌, nat_lt, if◌then◌else◌, List, [], ◌∷◌, ◌++◌, map, length, get_or, refl, sym, ap, subst, ◌∙◌, arith, Option, Some, None}
 use Rattle.std.specs.Prelude.{Contains, option_map}
+use Rattle.std.proofs.lemmas.Bool.{and_parts}
 use Rattle.std.proofs.lemmas.Bool.Decides.{nat_tests}
 use Rattle.text_size.specs.TextRange.{Bounds}
 use Rattle.syntax_kind.specs.declared.syntax_kind.SyntaxKind.{SyntaxKind}
@@ -106,11 +107,6 @@ close_kind : (k : SyntaxKind) → closes_brace k ≡ true → k ≡ Token token_
 close_kind (Token token_kind.R_CURLY) h = refl
 close_kind _ h = absurd (no h)
 
-both_true : (a b : Bool) → a && b ≡ true → (a ≡ true) × (b ≡ true)
-both_true true true h = (refl, refl)
-both_true true false h = absurd (no h)
-both_true false b h = absurd (no h)
-
 within_below : (t : Tree) (p : Place) (i : ℕ) → Within t p → i < child_count (forest_of_children (subtree t p)) → Within t (p ++ i ∷ [])
 within_below t [] i w h = (h, tt)
 within_below t (j ∷ p) i w h = (w.0, within_below (child_at (forest_of_children t) j) p i w.1 h)
@@ -203,9 +199,9 @@ cursor : (edit : Edit) (c : Cursor) (r : Reparser) → kind_of c.tree ≡ Node n
     → IsAround c edit → exact_reparser_of rust_exact edit.delete c ≡ Some r → IsExactCursor c.tree edit c r
 cursor edit c r root b e around asked =
     let a : IsAsked edit.delete c r = is_asked edit.delete c r asked in
-    let tests = both_true (opens (first_child_of c) && closes (last_child_of c)) (nat_lt (range_start c) edit.delete.start && nat_lt edit.delete.end (range_end c)) a.between in
-    let braces = both_true (opens (first_child_of c)) (closes (last_child_of c)) tests.0 in
-    let bounds = both_true (nat_lt (range_start c) edit.delete.start) (nat_lt edit.delete.end (range_end c)) tests.1 in
+    let tests = and_parts (opens (first_child_of c) && closes (last_child_of c)) (nat_lt (range_start c) edit.delete.start && nat_lt edit.delete.end (range_end c)) a.between in
+    let braces = and_parts (opens (first_child_of c)) (closes (last_child_of c)) tests.0 in
+    let bounds = and_parts (nat_lt (range_start c) edit.delete.start) (nat_lt edit.delete.end (range_end c)) tests.1 in
     let v : Braced c.tree c.place (focus c) = braced c.tree c.place (focus c) b ((places_are_reached c.tree c.place).0 around.is_place) refl braces.0 braces.1 in
     let under : IsBelow c.place = below_root c.tree c.place r root a.chosen in
     let w = text_around c.tree c.place around.is_place in

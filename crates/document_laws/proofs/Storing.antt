@@ -4,6 +4,7 @@ use Rattle.std.specs.Prelude.{IsUtf8, All, slice_index}
 use Rattle.std.specs.Str.{IsCharBoundary}
 use Rattle.std.specs.List.{flat_map}
 use Rattle.std.proofs.Math.Seq.{take-append-add, drop-append-add}
+use Rattle.std.proofs.lemmas.Bool.{and_parts}
 use Rattle.std.proofs.lemmas.Bool.Decides.{nat_tests}
 use Rattle.std.proofs.lemmas.List.{map-append, take-append-le, get_or_append_left, get_or-append-add}
 use Rattle.std.proofs.lemmas.List.Concat.{flat_map-cons}
@@ -157,14 +158,6 @@ earlier_all a y z b n (f ∷ fs) =
     (earlier_all a y z b n fs)
     ∙ sym (ap (map new) (flat_map-cons (ended_by (length a)) f fs) ∙ map-append new (ended_by (length a) f) (flat_map (ended_by (length a)) fs))
 
-left_true : (p q : Bool) → (p && q) ≡ true → p ≡ true
-left_true true q h = refl
-left_true false q h = h
-
-right_true : (p q : Bool) → (p && q) ≡ true → q ≡ true
-right_true true q h = h
-right_true false q h = (let bad : false ≡ true = h in cc)
-
 not_at_most : (m n : ℕ) → nat_lt m n ≡ true → nat_le n m ≡ false
 not_at_most m n h = grind (arith, nat_tests, h)
 
@@ -172,10 +165,10 @@ not_at_most m n h = grind (arith, nat_tests, h)
 none_later : (start n : ℕ) (edit : Edit) (fs : List ErrorModel) → is_quiet_from n fs ≡ true → flat_map (later_fault (record { start = start; end = n }) edit) fs ≡ []
 none_later start n edit [] h = refl
 none_later start n edit (f ∷ fs) h =
-    let later : nat_le n f.range.start ≡ false = not_at_most f.range.start n (left_true (nat_lt f.range.start n) (is_quiet_from n fs) h) in
+    let later : nat_le n f.range.start ≡ false = not_at_most f.range.start n (and_parts (nat_lt f.range.start n) (is_quiet_from n fs) h).0 in
     flat_map-cons (later_fault (record { start = start; end = n }) edit) f fs
     ∙ ap₂ (λ (b : Bool) (gs : List ErrorModel). (if b then shifted_fault edit f ∷ [] else []) ++ gs) later
-    (none_later start n edit fs (right_true (nat_lt f.range.start n) (is_quiet_from n fs) h))
+    (none_later start n edit fs (and_parts (nat_lt f.range.start n) (is_quiet_from n fs) h).1)
   where
     shifted_fault : Edit → ErrorModel → ErrorModel
     shifted_fault edit f = record { message = f.message; range = record { start = shifted edit f.range.start; end = shifted edit f.range.end } }

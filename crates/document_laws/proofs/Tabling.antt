@@ -1,7 +1,8 @@
 -- Rust's tables, by computation.
-use Rattle.std.proofs.Common.{◌≡◌, ℕ, zero, suc, ◌+◌, ◌-◌, ◌<◌, ◌≤◌, ◌^◌, Bool, true, false, not, ◌&&◌, nat_eq, nat_le, if◌then◌else◌, List, [], ◌∷◌, length, ap, sym, ◌∙◌, refl, subst, arith}
+use Rattle.std.proofs.Common.{◌≡◌, ℕ, zero, suc, ◌+◌, ◌-◌, ◌<◌, ◌≤◌, ◌^◌, Bool, true, false, not, nat_eq, nat_le, if◌then◌else◌, List, [], ◌∷◌, length, ap, sym, ◌∙◌, refl, subst, arith}
 use Rattle.std.specs.Prelude.{Some, None, slice_get}
 use Rattle.std.specs.List.{list_all}
+use Rattle.std.proofs.lemmas.Bool.{and_parts}
 use Rattle.std.proofs.lemmas.Bool.Decides.{nat_tests}
 use Rattle.std.proofs.lemmas.Option.{slice_get_past}
 use Rattle.syntax_kind.specs.declared.syntax_kind.SyntaxKind.{SyntaxKind}
@@ -22,21 +23,13 @@ use Rattle.document_laws.specs.Tables.{RustSealsByCalls, RustLooksAreShort, IsEx
 
 -- ---- tests of all operations
 
-left_true : (a b : Bool) → (a && b) ≡ true → a ≡ true
-left_true true b h = refl
-left_true false b h = h
-
-right_true : (a b : Bool) → (a && b) ≡ true → b ≡ true
-right_true true b h = h
-right_true false b h = (let bad : false ≡ true = h in cc)
-
 some_same : {X : Type 0} (a b : X) → Some a ≡ Some b → a ≡ b
 some_same a b e = cc
 
 pub passes : {X : Type 0} (test : X → Bool) (xs : List X) (i : ℕ) (x : X) → list_all test xs ≡ true → slice_get xs i ≡ Some x → test x ≡ true
 passes test [] i x h e = (let bad : None ≡ Some x = e in cc)
-passes test (y ∷ xs) zero x h e = ap test (sym (some_same y x e)) ∙ left_true (test y) (list_all test xs) h
-passes test (y ∷ xs) (suc i) x h e = passes test xs i x (right_true (test y) (list_all test xs) h) e
+passes test (y ∷ xs) zero x h e = ap test (sym (some_same y x e)) ∙ (and_parts (test y) (list_all test xs) h).0
+passes test (y ∷ xs) (suc i) x h e = passes test xs i x (and_parts (test y) (list_all test xs) h).1 e
 
 -- ---- only calls seal
 

@@ -1,6 +1,6 @@
 -- A number ends before a brace.
 use Rattle.std.proofs.Common.{◌≡◌, ◌≢◌, ◌⊎◌, inl, inr, ℕ, suc, ◌+◌, Bool, true, false, not, ◌==◌, ◌&&◌, ◌||◌, if◌then◌else◌, List, ◌∷◌, ◌++◌, length, drop, ap, sym, ◌∙◌, refl, arith}
-use Rattle.std.proofs.lemmas.Bool.{cases_eq}
+use Rattle.std.proofs.lemmas.Bool.{cases_eq, and_parts}
 use Rattle.std.proofs.lemmas.Bool.Decides.{nat_tests}
 use Rattle.syntax_kind.specs.declared.syntax_kind.SyntaxKind.TheVariants.{Token}
 use Rattle.syntax_kind.specs.declared.syntax_kind.token_kind.TokenKind.TheVariants as token
@@ -126,21 +126,17 @@ based_ends c b text q h f =
     (λ e. skipped_ends whole_without_digits_of (λ s. skip_of c (skip_of classes.Underscore s)) b text q both (without_digits_ends b text _ h))
     (λ e. skipped_ends behind_digits_of (λ s. skip_of c (skip_of classes.Underscore s)) b text q both (behind_digits_ends b text _ h))
 
-right_true : (p r : Bool) → (p && r) ≡ true → r ≡ true
-right_true true r h = h
-right_true false r h = absurd (cc)
-
 pub number_ends : (first b : ℕ) (text q : List ℕ) → IsBrace b → Ends (number_of first) b text q
 number_ends first b text q h =
     choose (λ s. (first == 48) && begins_of 120 s) (λ s. based_of classes.Hexadecimal (drop 1 s))
     (λ s. if (first == 48) && (begins_of 98 s || begins_of 111 s) then based_of classes.Decimal (drop 1 s) else behind_digits_of (skip_of classes.Decimal s)) b text q
     (λ y. and_same _ _ _ _ refl (begins 120 b h refl refl q y))
-    (λ e. skipped_ends (based_of classes.Hexadecimal) (drop 1) b text q (λ y. tail 120 b q y (right_true (first == 48) (begins_of 120 q) e))
+    (λ e. skipped_ends (based_of classes.Hexadecimal) (drop 1) b text q (λ y. tail 120 b q y (and_parts (first == 48) (begins_of 120 q) e).1)
     (based_ends classes.Hexadecimal b text (drop 1 q) h (at_brace (is_in_of classes.Hexadecimal) b h refl refl)))
     (λ e. choose (λ s. (first == 48) && (begins_of 98 s || begins_of 111 s)) (λ s. based_of classes.Decimal (drop 1 s)) (λ s. behind_digits_of (skip_of classes.Decimal s)) b text q
     (λ y. and_same _ _ _ _ refl (or_same _ _ _ _ (begins 98 b h refl refl q y) (begins 111 b h refl refl q y)))
     (λ k. skipped_ends (based_of classes.Decimal) (drop 1) b text q
-    (λ y. elim (one_true (begins_of 98 q) (begins_of 111 q) (right_true (first == 48) (begins_of 98 q || begins_of 111 q) k)) [
+    (λ y. elim (one_true (begins_of 98 q) (begins_of 111 q) (and_parts (first == 48) (begins_of 98 q || begins_of 111 q) k).1) [
       | inl l ↦ tail 98 b q y l
       | inr l ↦ tail 111 b q y l
     ])

@@ -1,5 +1,6 @@
 -- The first token of a text ends before a brace, or goes over it, whatever follows the brace.
 use Rattle.std.proofs.Common.{◌≡◌, ◌⊎◌, inl, inr, ℕ, ◌<◌, ◌≤◌, Bool, true, false, ◌==◌, ◌&&◌, ◌||◌, nat_le, if◌then◌else◌, List, [], ◌∷◌, ◌++◌, length, drop, ap, ◌∙◌, refl, arith}
+use Rattle.std.proofs.lemmas.Bool.{and_parts}
 use Rattle.syntax_kind.specs.declared.syntax_kind.SyntaxKind.TheVariants.{Token}
 use Rattle.syntax_kind.specs.declared.syntax_kind.token_kind.TokenKind.TheVariants as token
 use Rattle.literal_escape.specs.declared.mode.Mode.TheVariants as modes
@@ -33,10 +34,6 @@ begins n b h f g q y = begins_same n b (not_same n b h f g) q y
 
 tail : (n b : ℕ) (q y : List ℕ) → begins_of n q ≡ true → drop 1 (q ++ b ∷ y) ≡ drop 1 q ++ b ∷ y
 tail n b q y e = tail_same (λ (x : ℕ). x == n) b q y e
-
-left_true : (p r : Bool) → (p && r) ≡ true → p ≡ true
-left_true true r h = refl
-left_true false r h = absurd (cc)
 
 one_true : (p r : Bool) → (p || r) ≡ true → (p ≡ true) ⊎ (r ≡ true)
 one_true true r h = inl refl
@@ -84,7 +81,7 @@ letter_r_ends e x b q h =
     (λ s. if opens_raw_of s then raw_string_of (Token token.STRING) s else name_of e (x ∷ s)) b (x ∷ q) q
     (λ y. then_same 35 b h (not_same 35 b h refl refl) begins_name_of (λ r z. begins_name_same b h r z) q y)
     (λ k. plain_ends (Token token.IDENT) (λ s. skip_name_of (drop 1 s)) b (x ∷ q) q
-    (λ y. ap skip_name_of (tail 35 b q y (left_true (begins_of 35 q) (begins_name_of (drop 1 q)) k)) ∙ skip_name_same b h (drop 1 q) y))
+    (λ y. ap skip_name_of (tail 35 b q y (and_parts (begins_of 35 q) (begins_name_of (drop 1 q)) k).0) ∙ skip_name_same b h (drop 1 q) y))
     (λ k. choose opens_raw_of (raw_string_of (Token token.STRING)) (λ s. name_of e (x ∷ s)) b (x ∷ q) q (λ y. opens_raw_same b h q y)
     (λ l. raw_string_ends (Token token.STRING) b (x ∷ q) q h)
     (λ l. named e x b q h))
@@ -96,7 +93,7 @@ letter_b_ends e x b q h =
     b (x ∷ q) q
     (λ y. then_same 114 b h (not_same 114 b h refl refl) opens_raw_of (λ r z. opens_raw_same b h r z) q y)
     (λ k. skipped_ends (raw_string_of (Token token.BYTE_STRING)) (drop 1) b (x ∷ q) q
-    (λ y. tail 114 b q y (left_true (begins_of 114 q) (opens_raw_of (drop 1 q)) k)) (raw_string_ends (Token token.BYTE_STRING) b (x ∷ q) (drop 1 q) h))
+    (λ y. tail 114 b q y (and_parts (begins_of 114 q) (opens_raw_of (drop 1 q)) k).0) (raw_string_ends (Token token.BYTE_STRING) b (x ∷ q) (drop 1 q) h))
     (λ k. choose (begins_of 34) (λ s. string_of modes.ByteStr (drop 1 s)) (λ s. if begins_of 39 s then character_of modes.Byte (drop 1 s) else name_of e (x ∷ s))
     b (x ∷ q) q (λ y. begins 34 b h refl refl q y)
     (λ l. skipped_ends (string_of modes.ByteStr) (drop 1) b (x ∷ q) q (λ y. tail 34 b q y l)
@@ -112,7 +109,7 @@ letter_c_ends e x b q h =
     (λ s. if begins_of 34 s then string_of modes.CStr (drop 1 s) else name_of e (x ∷ s)) b (x ∷ q) q
     (λ y. then_same 114 b h (not_same 114 b h refl refl) opens_raw_of (λ r z. opens_raw_same b h r z) q y)
     (λ k. skipped_ends (raw_string_of (Token token.C_STRING)) (drop 1) b (x ∷ q) q
-    (λ y. tail 114 b q y (left_true (begins_of 114 q) (opens_raw_of (drop 1 q)) k)) (raw_string_ends (Token token.C_STRING) b (x ∷ q) (drop 1 q) h))
+    (λ y. tail 114 b q y (and_parts (begins_of 114 q) (opens_raw_of (drop 1 q)) k).0) (raw_string_ends (Token token.C_STRING) b (x ∷ q) (drop 1 q) h))
     (λ k. choose (begins_of 34) (λ s. string_of modes.CStr (drop 1 s)) (λ s. name_of e (x ∷ s)) b (x ∷ q) q (λ y. begins 34 b h refl refl q y)
     (λ l. skipped_ends (string_of modes.CStr) (drop 1) b (x ∷ q) q (λ y. tail 34 b q y l)
     (string_ends modes.CStr b (x ∷ q) (drop 1 q) h (shorter q (x ∷ q) (omega arith))))

@@ -3,7 +3,7 @@ use Rattle.std.proofs.Common.{◌≡◌, ◌⊎◌, inl, inr, ℕ, zero, suc, �
 use Rattle.std.specs.Prelude.{IsUtf8, slice_get, cond}
 use Rattle.std.specs.Str.{trim_start, chars, skip_leading_whitespace}
 use lib.Utf8.{encode, encodes}
-use Rattle.std.proofs.lemmas.Bool.{cases_eq}
+use Rattle.std.proofs.lemmas.Bool.{cases_eq, and_parts}
 use Rattle.std.proofs.lemmas.Bool.Decides.{nat_tests}
 use Rattle.std.proofs.lemmas.Str.{encode_ascii, chars_past_char, IsUtf8-drop, IsCharBoundary-before_ascii}
 use Rattle.bstr.specs.Utf8.{Decoded, decoded, second, continues, bad, good, code_of_2, code_of_3, code_of_4}
@@ -61,28 +61,20 @@ negated : (r : Bool) → not r ≡ true → r ≡ false
 negated true h = absurd (cc)
 negated false h = refl
 
-last_true : (p r : Bool) → (p && r) ≡ true → r ≡ true
-last_true true r h = h
-last_true false r h = absurd (cc)
-
-first_true : (p r : Bool) → (p && r) ≡ true → p ≡ true
-first_true true r h = refl
-first_true false r h = absurd (cc)
-
 second_on : (p : Bool) (u v : Bool) (x : ℕ) → (u ≡ true → is_visible x ≡ false) → (v ≡ true → is_visible x ≡ false) → cond p u v ≡ true → is_visible x ≡ false
 second_on true u v x f g h = f h
 second_on false u v x f g h = g h
 
 -- a later byte of a character is not seen
 later_unseen : (x : ℕ) → continues x ≡ true → is_visible x ≡ false
-later_unseen x h = high 0x7F x (omega arith) (first_true (nat_lt 0x7F x) (nat_lt x 0xC0) h)
+later_unseen x h = high 0x7F x (omega arith) (and_parts (nat_lt 0x7F x) (nat_lt x 0xC0) h).0
 
 second_unseen : (b x : ℕ) → second b x ≡ true → is_visible x ≡ false
 second_unseen b x h =
-    second_on (b == 0xE0) (nat_lt 0x9F x && nat_lt x 0xC0) _ x (λ k. high 0x9F x (omega arith) (first_true (nat_lt 0x9F x) (nat_lt x 0xC0) k))
-    (second_on (b == 0xED) (nat_lt 0x7F x && nat_lt x 0xA0) _ x (λ k. high 0x7F x (omega arith) (first_true (nat_lt 0x7F x) (nat_lt x 0xA0) k))
-    (second_on (b == 0xF0) (nat_lt 0x8F x && nat_lt x 0xC0) _ x (λ k. high 0x8F x (omega arith) (first_true (nat_lt 0x8F x) (nat_lt x 0xC0) k))
-    (second_on (b == 0xF4) (nat_lt 0x7F x && nat_lt x 0x90) (continues x) x (λ k. high 0x7F x (omega arith) (first_true (nat_lt 0x7F x) (nat_lt x 0x90) k))
+    second_on (b == 0xE0) (nat_lt 0x9F x && nat_lt x 0xC0) _ x (λ k. high 0x9F x (omega arith) (and_parts (nat_lt 0x9F x) (nat_lt x 0xC0) k).0)
+    (second_on (b == 0xED) (nat_lt 0x7F x && nat_lt x 0xA0) _ x (λ k. high 0x7F x (omega arith) (and_parts (nat_lt 0x7F x) (nat_lt x 0xA0) k).0)
+    (second_on (b == 0xF0) (nat_lt 0x8F x && nat_lt x 0xC0) _ x (λ k. high 0x8F x (omega arith) (and_parts (nat_lt 0x8F x) (nat_lt x 0xC0) k).0)
+    (second_on (b == 0xF4) (nat_lt 0x7F x && nat_lt x 0x90) (continues x) x (λ k. high 0x7F x (omega arith) (and_parts (nat_lt 0x7F x) (nat_lt x 0x90) k).0)
     (λ k. later_unseen x k)))) h
 
 -- what follows the character has a fence if the text has one
@@ -161,8 +153,8 @@ unfolding fine_below
 fine_at zero x h l = absurd (omega (arith, l))
 fine_at (suc n) x h l =
     elim (cases_eq x n) [
-      | inl same ↦ ap (λ (j : ℕ). not (is_space_of j && is_visible j)) same ∙ first_true (not (is_space_of n && is_visible n)) (fine_below n) h
-      | inr other ↦ fine_at n x (last_true (not (is_space_of n && is_visible n)) (fine_below n) h) (omega (arith, l, other))
+      | inl same ↦ ap (λ (j : ℕ). not (is_space_of j && is_visible j)) same ∙ (and_parts (not (is_space_of n && is_visible n)) (fine_below n) h).0
+      | inr other ↦ fine_at n x (and_parts (not (is_space_of n && is_visible n)) (fine_below n) h).1 (omega (arith, l, other))
     ]
 
 all_fine : fine_below 128 ≡ true

@@ -3,6 +3,7 @@
 use Rattle.std.proofs.Common.{◌≡◌, ◌⊎◌, inl, inr, ℕ, ◌-◌, Bool, true, false, not, ◌==◌, ◌&&◌, ◌||◌, nat_lt, nat_le, if◌then◌else◌, Option, Some, List, [], ◌∷◌, length, drop, ap, sym, ◌∙◌, refl, arith}
 use Rattle.std.specs.Prelude.{bytes_eq, codes, cond}
 use Rattle.std.specs.Map.{lookup}
+use Rattle.std.proofs.lemmas.Bool.{and_parts}
 use Rattle.std.proofs.lemmas.Bool.Decides.{nat_tests}
 use Rattle.syntax_kind.specs.declared.syntax_kind.SyntaxKind.{SyntaxKind}
 use Rattle.syntax_kind.specs.declared.syntax_kind.SyntaxKind.TheVariants.{Token}
@@ -69,14 +70,6 @@ IsSign f x s t = (f t.kind ≡ 0) ⊎ (t ≡ sign_of x s)
 left_zero : (n : ℕ) (r : Bool) → ((n == 0) && r) ≡ true → n ≡ 0
 left_zero n r h = grind (arith, nat_tests)
 
-left_true : (p r : Bool) → (p && r) ≡ true → p ≡ true
-left_true true r h = refl
-left_true false r h = absurd (cc)
-
-right_true : (p r : Bool) → (p && r) ≡ true → r ≡ true
-right_true true r h = h
-right_true false r h = absurd (cc)
-
 all_true : (a b c d : Bool) → (a && b && c && d) ≡ true → (a ≡ true) × (b ≡ true) × (c ≡ true) × (d ≡ true)
 all_true true true true d h = (refl, refl, refl, h)
 all_true true true false d h = absurd (let bad : false ≡ true = h in cc)
@@ -100,7 +93,7 @@ is_among (j ∷ js) k = is_same_kind j k || is_among js k
 -- the test is 0 at a kind that is among those at which it is 0
 null_in : (f : SyntaxKind → ℕ) (ks : List SyntaxKind) (k : SyntaxKind) → are_null f ks ≡ true → is_among ks k ≡ true → f k ≡ 0
 null_in f [] k h m = absurd (let bad : false ≡ true = m in cc)
-null_in f (j ∷ js) k h m = by (is_same_kind j k) refl m (null_in f js k (right_true (f j == 0) (are_null f js) h))
+null_in f (j ∷ js) k h m = by (is_same_kind j k) refl m (null_in f js k (and_parts (f j == 0) (are_null f js) h).1)
   where
     by : (b : Bool) → is_same_kind j k ≡ b → (b || is_among js k) ≡ true → (is_among js k ≡ true → f k ≡ 0) → f k ≡ 0
     by true e n later = ap f (sym ((is_same_kind-equal j k).0 e)) ∙ left_zero (f j) (are_null f js) h
@@ -133,10 +126,10 @@ block_on_kind k _ n = refl
 
 module _ (f : SyntaxKind → ℕ) (given : is_null_beside_signs f ≡ true) where
   null : (t : TokenKind) → is_among plain_kinds (Token t) ≡ true → f (Token t) ≡ 0
-  null t m = null_in f plain_kinds (Token t) (left_true (are_null f plain_kinds) (all_editions (are_words_null f)) given) m
+  null t m = null_in f plain_kinds (Token t) (and_parts (are_null f plain_kinds) (all_editions (are_words_null f)) given).0 m
 
   words_null : (e : Edition) → are_words_null f e ≡ true
-  words_null e = at_edition (are_words_null f) (right_true (are_null f plain_kinds) (all_editions (are_words_null f)) given) e
+  words_null e = at_edition (are_words_null f) (and_parts (are_null f plain_kinds) (all_editions (are_words_null f)) given).1 e
 
   abbrev IsNull : Shape → Type 0
   IsNull t = f t.kind ≡ 0
@@ -169,7 +162,7 @@ module _ (f : SyntaxKind → ℕ) (given : is_null_beside_signs f ≡ true) wher
   found_null w [] h = null token.IDENT refl
   found_null w (x ∷ ws) h =
       word_on_null (bytes_eq w x.0) x.1 (lookup (bytes_eq w) ws) (left_zero (f x.1) (are_null f (word_kinds ws)) h)
-      (found_null w ws (right_true (f x.1 == 0) (are_null f (word_kinds ws)) h))
+      (found_null w ws (and_parts (f x.1 == 0) (are_null f (word_kinds ws)) h).1)
 
   word_null : (e : Edition) (w : List ℕ) → f (word_kind_of e w) ≡ 0
   word_null e w = kind_on (bytes_eq w (codes "_")) (Token token.UNDERSCORE) (word_on (keyword_of e w)) (null token.UNDERSCORE refl) (found_null w (keywords e) (words_null e))
@@ -344,8 +337,8 @@ sign_on g b n k l false e h r = r
 sign_found : (g : ℕ → SyntaxKind → Bool) (b : ℕ) (rs : Signs) → g b (Token token.ERROR) ≡ true → all_signs g rs ≡ true → g b (sign_in rs b) ≡ true
 sign_found g b [] e h = e
 sign_found g b (r ∷ rs) e h =
-    sign_on g b r.0 r.1 (sign_in rs b) (b == r.0) refl (left_true (g r.0 r.1) (all_signs g rs) h)
-    (sign_found g b rs e (right_true (g r.0 r.1) (all_signs g rs) h))
+    sign_on g b r.0 r.1 (sign_in rs b) (b == r.0) refl (and_parts (g r.0 r.1) (all_signs g rs) h).0
+    (sign_found g b rs e (and_parts (g r.0 r.1) (all_signs g rs) h).1)
 
 -- a test that holds of each sign holds of any byte and the kind of sign that it is
 pub sign_passes : (g : ℕ → SyntaxKind → Bool) (b : ℕ) → g b (Token token.ERROR) ≡ true → all_signs g signs ≡ true → g b (sign_kind_of b) ≡ true

@@ -1,8 +1,9 @@
 -- The errors of a text in which a piece was replaced, with their messages.
-use Rattle.std.proofs.Common.{◌≡◌, inl, ℕ, zero, suc, ◌+◌, ◌-◌, ◌<◌, ◌≤◌, ◌^◌, Bool, true, false, ◌&&◌, ◌||◌, if◌then◌else◌, List, [], ◌∷◌, ◌++◌, length, take, drop, map, reverse, ap, ap₂, sym, ◌∙◌, refl, arith, subst, append_assoc, append-nil, length-append, nat_lt, nat_le}
+use Rattle.std.proofs.Common.{◌≡◌, inl, ℕ, zero, suc, ◌+◌, ◌-◌, ◌<◌, ◌≤◌, ◌^◌, Bool, true, false, ◌||◌, if◌then◌else◌, List, [], ◌∷◌, ◌++◌, length, take, drop, map, reverse, ap, ap₂, sym, ◌∙◌, refl, arith, subst, append_assoc, append-nil, length-append, nat_lt, nat_le}
 use Rattle.std.specs.Prelude.{IsUtf8}
 use Rattle.std.specs.List.{flat_map}
 use Rattle.std.proofs.Math.Seq.{drop-append_seam, take-append_seam, take-append-add, drop-append-add}
+use Rattle.std.proofs.lemmas.Bool.{and_parts}
 use Rattle.std.proofs.lemmas.Bool.Decides.{nat_tests}
 use Rattle.std.proofs.lemmas.Grind.{flat_map-append}
 use Rattle.std.proofs.lemmas.List.{map-append, reverse-append, length-reverse}
@@ -218,24 +219,16 @@ kept : (n : ℕ) (es fs : Errors) → Each (EndsBy n) es → Each (IsFrom n) fs 
 kept n es fs h k =
     flat_map-append (ended_by n) es fs ∙ ap₂ (λ (gs hs : Errors). gs ++ hs) (all_ended n es h) (none_ended n fs k) ∙ append-nil es
 
-right_true : (p q : Bool) → (p && q) ≡ true → q ≡ true
-right_true true q h = h
-right_true false q h = absurd (cc)
-
-left_true : (p q : Bool) → (p && q) ≡ true → p ≡ true
-left_true true q h = refl
-left_true false q h = absurd (cc)
-
 pub quiet_behind : (n : ℕ) (es fs : Errors) → is_quiet_from n (es ++ fs) ≡ true → is_quiet_from n fs ≡ true
 quiet_behind n [] fs h = h
-quiet_behind n (e ∷ es) fs h = quiet_behind n es fs (right_true (nat_lt e.range.start n) (is_quiet_from n (es ++ fs)) h)
+quiet_behind n (e ∷ es) fs h = quiet_behind n es fs (and_parts (nat_lt e.range.start n) (is_quiet_from n (es ++ fs)) h).1
 
 not_below : (i n : ℕ) → n ≤ i → nat_lt i n ≡ true → ⊥
 not_below i n h k = grind (arith, nat_tests)
 
 pub quiet_none : (n : ℕ) (es : Errors) → Each (IsFrom n) es → is_quiet_from n es ≡ true → es ≡ []
 quiet_none n [] h k = refl
-quiet_none n (e ∷ es) h k = absurd (not_below e.range.start n h.0.begins (left_true (nat_lt e.range.start n) (is_quiet_from n es) k))
+quiet_none n (e ∷ es) h k = absurd (not_below e.range.start n h.0.begins (and_parts (nat_lt e.range.start n) (is_quiet_from n es) k).0)
 
 -- ---- a replaced piece
 

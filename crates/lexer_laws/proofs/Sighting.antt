@@ -2,7 +2,7 @@
 use Rattle.std.proofs.Common.{◌≡◌, ◌⊎◌, inl, inr, ℕ, zero, suc, ◌+◌, ◌-◌, ◌<◌, ◌≤◌, Bool, true, false, ◌==◌, ◌&&◌, ◌||◌, nat_lt, nat_le, if◌then◌else◌, List, [], ◌∷◌, ◌++◌, length, drop, take, ap, ap₂, sym, ◌∙◌, refl, arith, append_assoc, append-nil, take-append-drop, length-drop, length-take}
 use Rattle.std.specs.Prelude.{slice_get}
 use Rattle.std.proofs.Math.Seq.{drop-append_seam}
-use Rattle.std.proofs.lemmas.Bool.{cases_eq}
+use Rattle.std.proofs.lemmas.Bool.{cases_eq, and_parts}
 use Rattle.std.proofs.lemmas.Bool.Decides.{nat_tests}
 use Rattle.std.proofs.lemmas.List.{take-append-le, drop-append-le}
 use Rattle.syntax_kind.specs.declared.syntax_kind.SyntaxKind.{SyntaxKind}
@@ -35,14 +35,6 @@ empty_below : ℕ → ℕ → Bool
 empty_below left zero = true
 empty_below left (suc n) = (joined_of left n == 0) && empty_below left n
 
-first_true : (p r : Bool) → (p && r) ≡ true → p ≡ true
-first_true true r h = refl
-first_true false r h = absurd (cc)
-
-last_true : (p r : Bool) → (p && r) ≡ true → r ≡ true
-last_true true r h = h
-last_true false r h = absurd (cc)
-
 is_zero : (n : ℕ) → (n == 0) ≡ true → n ≡ 0
 is_zero n h = grind (arith, nat_tests)
 
@@ -51,8 +43,8 @@ unfolding empty_below
 empty_at left zero i h l = absurd (omega (arith, l))
 empty_at left (suc n) i h l =
     elim (cases_eq i n) [
-      | inl same ↦ ap (joined_of left) same ∙ is_zero (joined_of left n) (first_true (joined_of left n == 0) (empty_below left n) h)
-      | inr other ↦ empty_at left n i (last_true (joined_of left n == 0) (empty_below left n) h) (omega (arith, l, other))
+      | inl same ↦ ap (joined_of left) same ∙ is_zero (joined_of left n) (and_parts (joined_of left n == 0) (empty_below left n) h).0
+      | inr other ↦ empty_at left n i (and_parts (joined_of left n == 0) (empty_below left n) h).1 (omega (arith, l, other))
     ]
 
 none_before : empty_below 0 43 ≡ true
