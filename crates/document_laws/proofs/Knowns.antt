@@ -1,6 +1,7 @@
 -- The grammar's machine has a number for the kind of each token of the lexer that is neither white
 -- space nor a comment.
 use Rattle.std.proofs.Common.{◌≡◌, inl, inr, ℕ, zero, suc, ◌++◌, subst, None, ◌<◌, Bool, true, false, ◌==◌, ◌||◌, nat_lt, if◌then◌else◌, Option, Some, List, [], ◌∷◌, length, ap, sym, ◌∙◌, refl, arith}
+use Rattle.std.proofs.lemmas.Bool.{eqb-true}
 use Rattle.std.proofs.lemmas.Bool.Decides.{nat_tests}
 use Rattle.syntax_kind.specs.declared.syntax_kind.SyntaxKind.{SyntaxKind}
 use Rattle.syntax_kind.specs.declared.syntax_kind.SyntaxKind.TheVariants.{OTHER}
@@ -29,11 +30,8 @@ IsKnown t = lost_of t.kind ≡ 0
 
 -- ---- no kind of the lexer's is lost
 
-is_zero : (n : ℕ) → (n == 0) ≡ true → n ≡ 0
-is_zero n h = grind (arith, nat_tests)
-
 sign_known : (b : ℕ) → lost_of (sign_kind_of b) ≡ 0
-sign_known b = is_zero (lost_of (sign_kind_of b)) (sign_passes (λ n k. lost_of k == 0) b refl refl)
+sign_known b = eqb-true (lost_of (sign_kind_of b)) 0 (sign_passes (λ n k. lost_of k == 0) b refl refl)
 
 by_sign : (x : ℕ) (s : List ℕ) (t : Shape) → IsSign lost_of x s t → IsKnown t
 by_sign x s t (inl h) = h

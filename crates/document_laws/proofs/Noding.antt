@@ -1,7 +1,7 @@
 -- The node at a place of a laid tree is that of an event.
 use Rattle.std.proofs.Common.{◌≡◌, ◌⊎◌, inl, inr, ℕ, zero, suc, ◌+◌, ◌<◌, ◌^◌, min, Bool, true, false, not, nat_eq, if◌then◌else◌, List, [], ◌∷◌, ◌++◌, length, take, drop, refl, sym, ap, ap₂, subst, ◌∙◌, arith, append_assoc, append-nil}
 use Rattle.std.specs.Prelude.{Option, Some, None, slice_get}
-use Rattle.std.proofs.lemmas.Bool.Decides.{nat_tests}
+use Rattle.std.proofs.lemmas.Bool.{eqb-true}
 use Rattle.std.proofs.lemmas.List.{length-take-le}
 use Rattle.syntax_kind.specs.declared.syntax_kind.SyntaxKind.{SyntaxKind}
 use Rattle.syntax_kind.specs.Kinds.{is_trivia}
@@ -374,9 +374,6 @@ record EventOf (root : ℕ) (es : List Event) (i : ℕ) (k : SyntaxKind) : Type 
   inner : nat_eq number root ≡ false
   first : min from number ≡ i
 
-same_number : (m n : ℕ) → nat_eq m n ≡ true → m ≡ n
-same_number m n h = grind (arith, nat_tests, h)
-
 node_begins : (root : ℕ) (es : List Event) (i n : ℕ) (k l : SyntaxKind) (from : ℕ) (b c : Bool) → slice_get es n ≡ Some (Node l from) → nat_eq n root ≡ b → nat_eq (min from n) i ≡ c
     → HasBegin k (begin_at i (if b then None else Some (record { kind = l; from = min from n }))) → EventOf root es i k
 node_begins root es i n k l from true c e f g h = absurd h
@@ -384,7 +381,7 @@ node_begins root es i n k l from false c e f g h = by c g (subst (λ (x : Bool).
   where
     by : (x : Bool) → nat_eq (min from n) i ≡ x → HasBegin k (if x then begins l ∷ [] else []) → EventOf root es i k
     by true q (inl same) =
-        record { number = n; from = from; event = e ∙ ap (λ (j : SyntaxKind). Some (Node j from)) same; inner = f; first = same_number (min from n) i q }
+        record { number = n; from = from; event = e ∙ ap (λ (j : SyntaxKind). Some (Node j from)) same; inner = f; first = eqb-true (min from n) i q }
     by true q (inr other) = absurd other
     by false q other = absurd other
 

@@ -1,7 +1,7 @@
 -- The cursor of an edit that parses an exact piece again.
 use Rattle.std.proofs.Common.{◌≡◌, ℕ, zero, suc, ◌-◌, ◌<◌, Bool, true, false, ◌&&◌, nat_lt, if◌then◌else◌, List, [], ◌∷◌, ◌++◌, map, length, get_or, refl, sym, ap, subst, ◌∙◌, arith, Option, Some, None}
 use Rattle.std.specs.Prelude.{Contains, option_map}
-use Rattle.std.proofs.lemmas.Bool.{and_parts}
+use Rattle.std.proofs.lemmas.Bool.{and_parts, ltb-true}
 use Rattle.std.proofs.lemmas.Bool.Decides.{nat_tests}
 use Rattle.text_size.specs.TextRange.{Bounds}
 use Rattle.syntax_kind.specs.declared.syntax_kind.SyntaxKind.{SyntaxKind}
@@ -192,9 +192,6 @@ below_root : (t : Tree) (p : Place) (r : Reparser) → kind_of t ≡ Node node_k
 below_root t [] r root chosen = absurd (never r (sym (ap exact_chosen_of root) ∙ chosen))
 below_root t (i ∷ p) r root chosen = record { position = i; below = p; is = refl }
 
-before_true : (a b : ℕ) → nat_lt a b ≡ true → a < b
-before_true a b h = grind (arith, nat_tests, h)
-
 cursor : (edit : Edit) (c : Cursor) (r : Reparser) → kind_of c.tree ≡ Node node_kind.SOURCE_FILE → BracesAreTokens c.tree → IsEditOf (text c.tree) edit
     → IsAround c edit → exact_reparser_of rust_exact edit.delete c ≡ Some r → IsExactCursor c.tree edit c r
 cursor edit c r root b e around asked =
@@ -221,8 +218,8 @@ cursor edit c r root b e around asked =
       last_is = v.last;
       starts = refl;
       ends = refl;
-      begun = before_true (range_start c) edit.delete.start bounds.0;
-      ended = before_true edit.delete.end (range_end c) bounds.1;
+      begun = ltb-true (range_start c) edit.delete.start bounds.0;
+      ended = ltb-true edit.delete.end (range_end c) bounds.1;
       before = text_before c.tree c.place;
       behind = text_behind c.tree c.place;
       text_is = w.0;

@@ -2,6 +2,7 @@
 use Rattle.std.proofs.Common.{◌≡◌, ℕ, true, false, not, refl}
 use Rattle.std.specs.Prelude.{Option, Some, None, slice_get}
 use Rattle.std.specs.List.{list_all}
+use Rattle.std.proofs.lemmas.Bool.{not-true}
 use Rattle.syntax_kind.specs.declared.syntax_kind.SyntaxKind.{SyntaxKind}
 use Rattle.syntax_kind.specs.Kinds.{is_trivia}
 use Rattle.grammar_machine.specs.declared.event.Event.TheVariants as event
@@ -12,7 +13,7 @@ use Rattle.rust_grammar.specs.Tables.{rust_tables}
 use Rattle.document_laws.specs.FileKinds.{makes_kind}
 use Rattle.document_laws.specs.Plain.{HasPlainKinds, RunsMakePlainTokens, RustHasPlainKinds}
 use Rattle.document_laws.proofs.Making.{made_other}
-use Rattle.document_laws.proofs.Tabling.{passes, not_true}
+use Rattle.document_laws.proofs.Tabling.{passes}
 
 plain_or : (o : Option SyntaxKind) → ((k : SyntaxKind) → o ≡ Some k → is_trivia k ≡ false) → is_trivia (kind_or o) ≡ false
 plain_or None f = refl
@@ -40,4 +41,4 @@ unfolding rust_tables
 all_plain = refl
 
 pub rust_plain : RustHasPlainKinds
-rust_plain i k e = not_true (is_trivia k) (passes (λ j. not (is_trivia j)) rust_tables.kinds i k all_plain e)
+rust_plain i k e = not-true (is_trivia k) (passes (λ j. not (is_trivia j)) rust_tables.kinds i k all_plain e)

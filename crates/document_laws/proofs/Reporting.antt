@@ -3,7 +3,7 @@ use Rattle.std.proofs.Common.{◌≡◌, ℕ, zero, suc, ◌+◌, ◌-◌, ◌<�
 use Rattle.std.specs.Prelude.{All}
 use Rattle.std.specs.List.{flat_map}
 use Rattle.std.proofs.Math.Seq.{take-append_seam, drop-append_seam}
-use Rattle.std.proofs.lemmas.Bool.Decides.{nat_tests}
+use Rattle.std.proofs.lemmas.Bool.{leb-true}
 use Rattle.std.proofs.lemmas.Grind.{flat_map-append}
 use Rattle.std.proofs.lemmas.List.{length-append, map-append}
 use Rattle.std.proofs.lemmas.List.Concat.{flat_map-cons}
@@ -117,9 +117,6 @@ few_end n (f ∷ fs) = by (nat_le f.range.end n) refl (few_end n fs)
         ap length (flat_map-cons (ended_by n) f fs ∙ ap (λ (b : Bool). (if b then f ∷ [] else []) ++ flat_map (ended_by n) fs) e) in
         omega (arith, few, is)
 
-at_most_is : (m n : ℕ) → nat_le m n ≡ true → m ≤ n
-at_most_is m n h = grind (arith, nat_tests, h)
-
 same_rest : (f g : LexError) (fs gs : List LexError) → f ∷ fs ≡ g ∷ gs → fs ≡ gs
 same_rest f g fs gs h = cc
 
@@ -132,7 +129,7 @@ all_end n (f ∷ fs) h = by (nat_le f.range.end n) refl (all_end n fs)
     by true e rest =
         let is : f ∷ flat_map (ended_by n) fs ≡ f ∷ fs =
         ap (λ (b : Bool). (if b then f ∷ [] else []) ++ flat_map (ended_by n) fs) (sym e) ∙ sym (flat_map-cons (ended_by n) f fs) ∙ h in
-        All-cons (EndsBy n) f fs (at_most_is f.range.end n e) (rest (same_rest f f (flat_map (ended_by n) fs) fs is))
+        All-cons (EndsBy n) f fs (leb-true f.range.end n e) (rest (same_rest f f (flat_map (ended_by n) fs) fs is))
     by false e rest =
         let is : flat_map (ended_by n) fs ≡ f ∷ fs =
         ap (λ (b : Bool). (if b then f ∷ [] else []) ++ flat_map (ended_by n) fs) (sym e) ∙ sym (flat_map-cons (ended_by n) f fs) ∙ h in

@@ -1,6 +1,7 @@
 -- What the grammar's machine sees of tokens of Rust are sights of these tokens.
-use Rattle.std.proofs.Common.{◌≡◌, ◌⊎◌, inl, inr, ℕ, zero, suc, ◌+◌, ◌<◌, Bool, true, false, ◌==◌, ◌||◌, nat_lt, if◌then◌else◌, List, [], ◌∷◌, ◌++◌, length, drop, take, ap, sym, ◌∙◌, refl, arith, subst}
+use Rattle.std.proofs.Common.{◌≡◌, inl, inr, ℕ, zero, suc, ◌+◌, ◌<◌, Bool, true, false, ◌==◌, ◌||◌, nat_lt, if◌then◌else◌, List, [], ◌∷◌, ◌++◌, length, drop, take, ap, sym, ◌∙◌, refl, arith, subst}
 use Rattle.std.specs.Prelude.{Some, None, slice_get}
+use Rattle.std.proofs.lemmas.Bool.{cases_Bool}
 use Rattle.std.proofs.lemmas.Bool.Decides.{nat_tests}
 use Rattle.syntax_kind.specs.declared.syntax_kind.SyntaxKind.{SyntaxKind}
 use Rattle.syntax_kind.specs.declared.syntax_kind.SyntaxKind.TheVariants.{Token as TokenKind}
@@ -24,12 +25,8 @@ trivia_number (TokenKind token.WHITESPACE) h = refl
 trivia_number (TokenKind token.COMMENT) h = refl
 trivia_number _ h = absurd (cc)
 
-either_true : (p : Bool) → (p ≡ true) ⊎ (p ≡ false)
-either_true true = inl refl
-either_true false = inr refl
-
 not_trivia : (k : SyntaxKind) → 0 < number_of k → is_trivia k ≡ false
-not_trivia k h = elim (either_true (is_trivia k)) [ inl e ↦ absurd (omega (arith, h, trivia_number k e)) | inr e ↦ e ]
+not_trivia k h = elim (cases_Bool (is_trivia k)) [ inl e ↦ absurd (omega (arith, h, trivia_number k e)) | inr e ↦ e ]
 
 -- ---- what is joined
 
@@ -44,7 +41,7 @@ is_some sign h = grind (arith, nat_tests, h)
 
 -- only a sign is joined with what is before it
 sign_joins : (left sign : ℕ) → 0 < joined_of left sign → 0 < sign
-sign_joins left sign h = elim (either_true (nat_lt sign 24)) [ inl e ↦ absurd (omega (arith, h, no_sign left sign e)) | inr e ↦ is_some sign e ]
+sign_joins left sign h = elim (cases_Bool (nat_lt sign 24)) [ inl e ↦ absurd (omega (arith, h, no_sign left sign e)) | inr e ↦ is_some sign e ]
 
 -- ---- tokens that are seen
 
@@ -66,7 +63,7 @@ three_stand t (u ∷ v ∷ ts) h k j =
 
 second_joins : (one second third : ℕ) → 0 < joined_of (joined_of one second) third → 0 < second
 second_joins one second third h =
-    elim (either_true (nat_lt second 24)) [
+    elim (cases_Bool (nat_lt second 24)) [
       | inl e ↦ absurd (let none : joined_of (joined_of one second) third ≡ 0 = ap (λ (j : ℕ). joined_of j third) (no_sign one second e) ∙ no_left third in omega (arith, h, none))
       | inr e ↦ is_some second e
     ]
@@ -112,7 +109,7 @@ sight_skip e text t ts h =
 counted : (e : Edition) (text : List ℕ) (ts : List Token) → KnownAll ts → length (sights_of e text ts) ≡ length (seen_tokens ts)
 counted e text [] h = refl
 counted e text (t ∷ ts) h =
-    elim (either_true (is_trivia t.kind)) [
+    elim (cases_Bool (is_trivia t.kind)) [
       | inl k ↦ ap length (sight_skip e text t ts k) ∙ counted e (drop t.len text) ts h.1 ∙ sym (ap length (seen_skip t ts k))
       | inr k ↦ ap length (sight_here e text t ts (h.0 k)) ∙ ap suc (counted e (drop t.len text) ts h.1) ∙ sym (ap length (seen_keep t ts k))
     ]
@@ -131,7 +128,7 @@ next_here : (e : Edition) (text : List ℕ) (back : List Token) (s : Sight) → 
     → JoinsNext s back × FirstHas back s.one
 next_here e text [] s h l g = absurd (let bad : None ≡ Some s = g in cc)
 next_here e text (t ∷ ts) s h l g =
-    elim (either_true (is_trivia t.kind)) [
+    elim (cases_Bool (is_trivia t.kind)) [
       | inl k ↦ absurd (let more : lead (t ∷ ts) ≡ lead ts + 1 = lead_more t ts ∙ ap (λ (b : Bool). if b then lead ts + 1 else 0) k in omega (arith, more, l))
       | inr k ↦
           let x : Sight = sight_of e (take t.len text) (number_of t.kind) (number_on (slice_get ts 0)) (number_on (slice_get ts 1)) in
@@ -145,7 +142,7 @@ next_at : (e : Edition) (text : List ℕ) (front back : List Token) (s : Sight) 
     → slice_get (sights_of e text (front ++ back)) (length (seen_tokens front)) ≡ Some s → JoinsNext s back × FirstHas back s.one
 next_at e text [] back s h l g = next_here e text back s h l g
 next_at e text (t ∷ front) back s h l g =
-    elim (either_true (is_trivia t.kind)) [
+    elim (cases_Bool (is_trivia t.kind)) [
       | inl k ↦ next_at e (drop t.len text) front back s h.1 l
           (sym (ap (λ (ss : List Sight). slice_get ss (length (seen_tokens front))) (sight_skip e text t (front ++ back) k))
           ∙ sym (ap (λ (us : List Token). slice_get (sights_of e text (t ∷ (front ++ back))) (length us)) (seen_skip t front k)) ∙ g)

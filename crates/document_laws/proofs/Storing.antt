@@ -4,7 +4,7 @@ use Rattle.std.specs.Prelude.{IsUtf8, All, slice_index}
 use Rattle.std.specs.Str.{IsCharBoundary}
 use Rattle.std.specs.List.{flat_map}
 use Rattle.std.proofs.Math.Seq.{take-append-add, drop-append-add}
-use Rattle.std.proofs.lemmas.Bool.{and_parts}
+use Rattle.std.proofs.lemmas.Bool.{and_parts, leb-true}
 use Rattle.std.proofs.lemmas.Bool.Decides.{nat_tests}
 use Rattle.std.proofs.lemmas.List.{map-append, take-append-le, get_or_append_left, get_or-append-add}
 use Rattle.std.proofs.lemmas.List.Concat.{flat_map-cons}
@@ -143,9 +143,6 @@ earlier_on : (b : Bool) (x y : ErrorModel) (f : LexError) (g : LexError → Erro
 earlier_on true x y f g h = ap (λ (z : ErrorModel). z ∷ []) (h refl)
 earlier_on false x y f g h = refl
 
-is_at_most : (m n : ℕ) → nat_le m n ≡ true → m ≤ n
-is_at_most m n h = grind (arith, nat_tests, h)
-
 earlier_all : (a y z : List ℕ) (b n : ℕ) (fs : Errors)
     → flat_map (earlier_fault (record { start = length a; end = n })) (map (lexer_error_of (a ++ b ∷ y)) fs) ≡ map (lexer_error_of (a ++ b ∷ z)) (flat_map (ended_by (length a)) fs)
 earlier_all a y z b n [] = refl
@@ -154,7 +151,7 @@ earlier_all a y z b n (f ∷ fs) =
     let new : LexError → ErrorModel = lexer_error_of (a ++ b ∷ z) in
     flat_map-cons (earlier_fault (record { start = length a; end = n })) (old f) (map old fs)
     ∙ ap₂ (λ (es gs : List ErrorModel). es ++ gs)
-    (earlier_on (nat_le f.range.end (length a)) (old f) (old f) f new (λ h. error_before a y z b f (is_at_most f.range.end (length a) h)))
+    (earlier_on (nat_le f.range.end (length a)) (old f) (old f) f new (λ h. error_before a y z b f (leb-true f.range.end (length a) h)))
     (earlier_all a y z b n fs)
     ∙ sym (ap (map new) (flat_map-cons (ended_by (length a)) f fs) ∙ map-append new (ended_by (length a) f) (flat_map (ended_by (length a)) fs))
 

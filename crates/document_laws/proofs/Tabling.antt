@@ -2,7 +2,7 @@
 use Rattle.std.proofs.Common.{◌≡◌, ℕ, zero, suc, ◌+◌, ◌-◌, ◌<◌, ◌≤◌, ◌^◌, Bool, true, false, not, nat_eq, nat_le, if◌then◌else◌, List, [], ◌∷◌, length, ap, sym, ◌∙◌, refl, subst, arith}
 use Rattle.std.specs.Prelude.{Some, None, slice_get}
 use Rattle.std.specs.List.{list_all}
-use Rattle.std.proofs.lemmas.Bool.{and_parts}
+use Rattle.std.proofs.lemmas.Bool.{and_parts, eqb-true, not-true}
 use Rattle.std.proofs.lemmas.Bool.Decides.{nat_tests}
 use Rattle.std.proofs.lemmas.Option.{slice_get_past}
 use Rattle.syntax_kind.specs.declared.syntax_kind.SyntaxKind.{SyntaxKind}
@@ -40,12 +40,8 @@ all_seal : list_all seals_rightly rust_tables.ops ≡ true
 unfolding rust_tables
 all_seal = refl
 
-pub not_true : (b : Bool) → not b ≡ true → b ≡ false
-not_true true h = (let bad : false ≡ true = h in cc)
-not_true false h = refl
-
 pub only_calls : RustSealsByCalls
-only_calls i o e = not_true (makes_one_of rust_tables.sealed o) (passes seals_rightly rust_tables.ops i o all_seal e)
+only_calls i o e = not-true (makes_one_of rust_tables.sealed o) (passes seals_rightly rust_tables.ops i o all_seal e)
 
 -- ---- looks are short
 
@@ -72,11 +68,8 @@ all_bodies : list_all calls_body rust_tables.ops ≡ true
 unfolding rust_tables
 all_bodies = refl
 
-same_number : (m n : ℕ) → nat_eq m n ≡ true → m ≡ n
-same_number m n h = grind (arith, nat_tests, h)
-
 body_called : (k : SyntaxKind) (i t : ℕ) → slice_get rust_tables.ops i ≡ Some (op.Sealed t k) → t ≡ body_of k
-body_called k i t e = same_number t (body_of k) (passes calls_body rust_tables.ops i (op.Sealed t k) all_bodies e)
+body_called k i t e = eqb-true t (body_of k) (passes calls_body rust_tables.ops i (op.Sealed t k) all_bodies e)
 
 count : length rust_tables.ops ≡ op_count
 unfolding rust_tables
@@ -151,7 +144,7 @@ no_reparser : (r : Reparser) → None ≡ Some r → ⊥
 no_reparser r e = (let bad : None ≡ Some r = e in cc)
 
 of_number : (n m : ℕ) (number : ℕ) → Computed (OTHER m) number → nat_eq n m ≡ true → Computed (OTHER n) number
-of_number n m number c e = subst (λ (j : ℕ). Computed (OTHER j) number) (sym (same_number n m e)) c
+of_number n m number c e = subst (λ (j : ℕ). Computed (OTHER j) number) (sym (eqb-true n m e)) c
 
 other : (n : ℕ) (r : Reparser) (b c : Bool) → nat_eq n 271 ≡ b → nat_eq n 275 ≡ c
     → reparser_on (OTHER n) (if b then Some 2 else (if c then Some 3 else None)) ≡ Some r → IsExactRule (OTHER n) r

@@ -2,6 +2,7 @@
 use Rattle.std.proofs.Common.{◌≡◌, ◌⊎◌, inl, inr, ℕ, zero, suc, ◌+◌, ◌-◌, ◌<◌, ◌≤◌, ◌^◌, Bool, true, false, not, ◌==◌, ◌||◌, if◌then◌else◌, List, [], ◌∷◌, ◌++◌, length, drop, ap, ap₂, sym, ◌∙◌, refl, arith, subst, length-drop}
 use Rattle.std.specs.Prelude.{IsUtf8}
 use Rattle.std.specs.Str.{IsCharBoundary}
+use Rattle.std.proofs.lemmas.Bool.{cases_Bool}
 use Rattle.std.proofs.lemmas.Bool.Decides.{nat_tests}
 use Rattle.std.proofs.lemmas.List.{drop-append-le}
 use Rattle.std.proofs.lemmas.Str.{IsCharBoundary-at_seam}
@@ -89,14 +90,10 @@ whole e s b h f w =
           long_token e (s ++ b ∷ y) (length s) (omega (arith, m)) (omega (arith, cut, longer s y b));
     }
 
-either_true : (p : Bool) → (p ≡ true) ⊎ (p ≡ false)
-either_true true = inl refl
-either_true false = inr refl
-
 pub first_token : (e : Edition) (x : ℕ) (s : List ℕ) (b : ℕ) → IsBrace b → length (x ∷ s) < 2 ^ 32 - 1 → Inside e (x ∷ s) b ⊎ Beyond e (x ∷ s) b
 first_token e x s b h l =
     elim (token_ends e x b s h) [
-      | inl k ↦ elim (either_true (is_whole (token_of e (x ∷ s)).left (x ∷ s))) [
+      | inl k ↦ elim (cases_Bool (is_whole (token_of e (x ∷ s)).left (x ∷ s))) [
         | inl w ↦ inr (whole e (x ∷ s) b h k.same w)
         | inr w ↦ inl (inside e (x ∷ s) b h l k.same w)
       ]

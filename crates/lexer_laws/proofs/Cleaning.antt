@@ -1,7 +1,8 @@
 -- Texts without errors that are cut at a brace.
-use Rattle.std.proofs.Common.{◌≡◌, ◌⊎◌, inl, inr, ℕ, zero, suc, ◌+◌, ◌-◌, ◌<◌, ◌≤◌, ◌^◌, Bool, true, false, ◌==◌, List, [], ◌∷◌, ◌++◌, length, drop, ap, ap₂, sym, ◌∙◌, refl, arith, subst, append_assoc, append-nil, length-append, length-drop}
+use Rattle.std.proofs.Common.{◌≡◌, ◌⊎◌, inl, inr, ℕ, zero, suc, ◌+◌, ◌-◌, ◌<◌, ◌≤◌, ◌^◌, true, false, ◌==◌, List, [], ◌∷◌, ◌++◌, length, drop, ap, ap₂, sym, ◌∙◌, refl, arith, subst, append_assoc, append-nil, length-append, length-drop}
 use Rattle.std.specs.Prelude.{IsUtf8}
 use Rattle.std.proofs.Math.Seq.{drop-append_seam}
+use Rattle.std.proofs.lemmas.Bool.{cases_Bool}
 use Rattle.std.proofs.lemmas.Bool.Decides.{nat_tests}
 use Rattle.std.proofs.lemmas.List.{drop-drop}
 use Rattle.text_size.specs.declared.range.TextRange.{TextRange}
@@ -104,10 +105,6 @@ record Grown (es fs : List LexError) : Type 0 where
   more : List LexError
   is : fs ≡ es ++ more
 
-either_true : (p : Bool) → (p ≡ true) ⊎ (p ≡ false)
-either_true true = inl refl
-either_true false = inr refl
-
 step_grown : (n : ℕ) (e : Edition) (text : List ℕ) (l : Lexing) → ((k : Lexing) → Grown k.errors (steps_of n e text k).errors)
     → ((length l.rest == 0) ≡ true) ⊎ ((length l.rest == 0) ≡ false) → Grown l.errors (steps_of (suc n) e text l).errors
 step_grown n e text l f (inl h) = record { more = []; is = ap (λ (k : Lexing). k.errors) (steps-stop (suc n) e text l h) ∙ sym (append-nil l.errors) }
@@ -125,7 +122,7 @@ step_grown n e text l f (inr h) =
 
 grown : (n : ℕ) (e : Edition) (text : List ℕ) (l : Lexing) → Grown l.errors (steps_of n e text l).errors
 grown zero e text l = record { more = []; is = ap (λ (k : Lexing). k.errors) (steps-end 0 e text l refl) ∙ sym (append-nil l.errors) }
-grown (suc n) e text l = step_grown n e text l (λ k. grown n e text k) (either_true (length l.rest == 0))
+grown (suc n) e text l = step_grown n e text l (λ k. grown n e text k) (cases_Bool (length l.rest == 0))
 
 not_empty : (x : ℕ) (s : List ℕ) → (length (x ∷ s) == 0) ≡ false
 not_empty x s = grind (arith, nat_tests)

@@ -1,6 +1,6 @@
 -- A number ends before a brace.
-use Rattle.std.proofs.Common.{◌≡◌, ◌≢◌, ◌⊎◌, inl, inr, ℕ, suc, ◌+◌, Bool, true, false, not, ◌==◌, ◌&&◌, ◌||◌, if◌then◌else◌, List, ◌∷◌, ◌++◌, length, drop, ap, sym, ◌∙◌, refl, arith}
-use Rattle.std.proofs.lemmas.Bool.{cases_eq, and_parts}
+use Rattle.std.proofs.Common.{◌≡◌, ◌≢◌, inl, inr, ℕ, suc, ◌+◌, Bool, true, false, not, ◌==◌, ◌&&◌, ◌||◌, if◌then◌else◌, List, ◌∷◌, ◌++◌, length, drop, ap, sym, ◌∙◌, refl, arith}
+use Rattle.std.proofs.lemmas.Bool.{cases_eq, and_parts, eq-eqb, or_cases}
 use Rattle.std.proofs.lemmas.Bool.Decides.{nat_tests}
 use Rattle.syntax_kind.specs.declared.syntax_kind.SyntaxKind.TheVariants.{Token}
 use Rattle.syntax_kind.specs.declared.syntax_kind.token_kind.TokenKind.TheVariants as token
@@ -24,12 +24,8 @@ exponent_same b h q y = or_same _ _ _ _ (begins 101 b h refl refl q y) (begins 6
 tail : (n b : ℕ) (q y : List ℕ) → begins_of n q ≡ true → drop 1 (q ++ b ∷ y) ≡ drop 1 q ++ b ∷ y
 tail n b q y e = tail_same (λ (x : ℕ). x == n) b q y e
 
-one_true : (p r : Bool) → (p || r) ≡ true → (p ≡ true) ⊎ (r ≡ true)
-one_true true r h = inl refl
-one_true false r h = inr h
-
 exponent_tail : (b : ℕ) (q y : List ℕ) → begins_exponent_of q ≡ true → drop 1 (q ++ b ∷ y) ≡ drop 1 q ++ b ∷ y
-exponent_tail b q y e = elim (one_true (begins_of 101 q) (begins_of 69 q) e) [ inl h ↦ tail 101 b q y h | inr h ↦ tail 69 b q y h ]
+exponent_tail b q y e = elim (or_cases (begins_of 101 q) (begins_of 69 q) e) [ inl h ↦ tail 101 b q y h | inr h ↦ tail 69 b q y h ]
 
 underscores : (b : ℕ) → IsBrace b → (q y : List ℕ) → skip_of classes.Underscore (q ++ b ∷ y) ≡ skip_of classes.Underscore q ++ b ∷ y
 underscores b h q y = skip_same classes.Underscore b (at_brace (is_in_of classes.Underscore) b h refl refl) q y
@@ -44,7 +40,7 @@ sign_on true p' u v w z z' e h k = ap (λ (r : Bool). if r then u else v) e ∙ 
 sign_on false p' u v w z z' e h k = ap (λ (r : Bool). if r then u else v) e ∙ k
 
 sign_tail : (b : ℕ) (q y : List ℕ) → (begins_of 43 q || begins_of 45 q) ≡ true → drop 1 (q ++ b ∷ y) ≡ drop 1 q ++ b ∷ y
-sign_tail b q y e = elim (one_true (begins_of 43 q) (begins_of 45 q) e) [ inl h ↦ tail 43 b q y h | inr h ↦ tail 45 b q y h ]
+sign_tail b q y e = elim (or_cases (begins_of 43 q) (begins_of 45 q) e) [ inl h ↦ tail 43 b q y h | inr h ↦ tail 45 b q y h ]
 
 sign_same : (b : ℕ) → IsBrace b → (q y : List ℕ) → sign_of (q ++ b ∷ y) ≡ sign_of q ++ b ∷ y
 sign_same b h q y =
@@ -103,16 +99,13 @@ behind_digits_ends b text q h =
     (λ k. skipped_ends exponent_of (drop 1) b text q (λ y. exponent_tail b q y k) (exponent_ends b text (drop 1 q) h))
     (λ k. whole_ends b text q h))
 
-equal : (m n : ℕ) → m ≡ n → (m == n) ≡ true
-equal m n h = grind (arith, nat_tests)
-
 unequal : (m n : ℕ) → m ≢ n → (m == n) ≡ false
 unequal m n h = grind (arith, nat_tests)
 
 shifted : (m n k m' n' : ℕ) → m' ≡ m + k → n' ≡ n + k → (m' == n') ≡ (m == n)
 shifted m n k m' n' h l =
     elim (cases_eq m n) [
-      | inl same ↦ equal m' n' (omega (arith, h, l, same)) ∙ sym (equal m n same)
+      | inl same ↦ eq-eqb m' n' (omega (arith, h, l, same)) ∙ sym (eq-eqb m n same)
       | inr other ↦ unequal m' n' (λ e. other (omega (arith, h, l, e))) ∙ sym (unequal m n other)
     ]
 
@@ -136,7 +129,7 @@ number_ends first b text q h =
     (λ e. choose (λ s. (first == 48) && (begins_of 98 s || begins_of 111 s)) (λ s. based_of classes.Decimal (drop 1 s)) (λ s. behind_digits_of (skip_of classes.Decimal s)) b text q
     (λ y. and_same _ _ _ _ refl (or_same _ _ _ _ (begins 98 b h refl refl q y) (begins 111 b h refl refl q y)))
     (λ k. skipped_ends (based_of classes.Decimal) (drop 1) b text q
-    (λ y. elim (one_true (begins_of 98 q) (begins_of 111 q) (and_parts (first == 48) (begins_of 98 q || begins_of 111 q) k).1) [
+    (λ y. elim (or_cases (begins_of 98 q) (begins_of 111 q) (and_parts (first == 48) (begins_of 98 q || begins_of 111 q) k).1) [
       | inl l ↦ tail 98 b q y l
       | inr l ↦ tail 111 b q y l
     ])

@@ -1,5 +1,6 @@
 -- A token ends before a brace, or goes over it, whatever follows the brace.
-use Rattle.std.proofs.Common.{◌≡◌, ◌⊎◌, inl, inr, ℕ, suc, ◌+◌, ◌-◌, ◌<◌, ◌≤◌, ◌^◌, Bool, true, false, not, ◌==◌, ◌||◌, if◌then◌else◌, List, ◌∷◌, ◌++◌, length, ap, sym, ◌∙◌, refl, arith, subst}
+use Rattle.std.proofs.Common.{◌≡◌, ◌⊎◌, inl, inr, ℕ, suc, ◌+◌, ◌-◌, ◌<◌, ◌≤◌, ◌^◌, Bool, true, false, not, ◌==◌, ◌||◌, if◌then◌else◌, List, ◌∷◌, ◌++◌, length, ap, sym, ◌∙◌, arith, subst}
+use Rattle.std.proofs.lemmas.Bool.{cases_Bool}
 use Rattle.syntax_kind.specs.declared.syntax_kind.SyntaxKind.{SyntaxKind}
 use Rattle.rust_lexer.specs.declared.problem.Problem.{Problem}
 use Rattle.rust_lexer.specs.declared.shape.Shape.{Shape}
@@ -65,10 +66,6 @@ on_false t f g b text q h e (inr k) =
           subst (λ (r : Bool). length text < cut_of (if r then f (q ++ b ∷ y) else g (q ++ b ∷ y)).left (text ++ b ∷ y)) (sym (h y ∙ e)) (k.over y);
     })
 
-either : (p : Bool) → (p ≡ true) ⊎ (p ≡ false)
-either true = inl refl
-either false = inr refl
-
 chosen : (t : List ℕ → Bool) (f g : List ℕ → Shape) (b : ℕ) (text q : List ℕ) → ((y : List ℕ) → t (q ++ b ∷ y) ≡ t q)
     → (t q ≡ true → Ends f b text q) → (t q ≡ false → Ends g b text q) → (t q ≡ true) ⊎ (t q ≡ false) → Ends (λ s. if t s then f s else g s) b text q
 chosen t f g b text q h k l (inl e) = on_true t f g b text q h e (k e)
@@ -77,7 +74,7 @@ chosen t f g b text q h k l (inr e) = on_false t f g b text q h e (l e)
 -- the test that chooses the token does not depend on what follows the brace
 pub choose : (t : List ℕ → Bool) (f g : List ℕ → Shape) (b : ℕ) (text q : List ℕ) → ((y : List ℕ) → t (q ++ b ∷ y) ≡ t q)
     → (t q ≡ true → Ends f b text q) → (t q ≡ false → Ends g b text q) → Ends (λ s. if t s then f s else g s) b text q
-choose t f g b text q h k l = chosen t f g b text q h k l (either (t q))
+choose t f g b text q h k l = chosen t f g b text q h k l (cases_Bool (t q))
 
 -- ---- tokens that end where something is skipped
 

@@ -1,7 +1,7 @@
 -- The content of a literal ends before a quote of its token.
 use Rattle.std.proofs.Common.{◌≡◌, ℕ, zero, suc, ◌-◌, ◌<◌, ◌^◌, Bool, true, false, not, ◌==◌, ◌&&◌, ◌||◌, nat_lt, nat_le, if◌then◌else◌, List, [], ◌∷◌, ◌++◌, length, drop, take, ap, ap₂, sym, ◌∙◌, refl, arith, append_assoc, length-append, take-append-drop}
 use Rattle.std.specs.Prelude.{bytes_eq, codes, slice_index}
-use Rattle.std.proofs.lemmas.Bool.{and_parts}
+use Rattle.std.proofs.lemmas.Bool.{and_parts, eqb-true}
 use Rattle.std.proofs.lemmas.Bool.Decides.{nat_tests}
 use Rattle.syntax_kind.specs.declared.syntax_kind.SyntaxKind.{SyntaxKind}
 use Rattle.syntax_kind.specs.declared.syntax_kind.SyntaxKind.TheVariants as kinds
@@ -91,13 +91,10 @@ character_on_fits m Closed s t before r is l few f =
 character_on_fits m QuoteLine s t before r is l few f = tt
 character_on_fits m _ s t before r is l few f = tt
 
-is_same : (b n : ℕ) → (b == n) ≡ true → b ≡ n
-is_same b n h = grind (arith, nat_tests)
-
 mark_parts : (t : List ℕ) → is_mark_of t ≡ true → (y : ℕ) × (t ≡ y ∷ 39 ∷ drop 2 t)
 mark_parts [] h = absurd (cc)
 mark_parts (y ∷ []) h = absurd (let bad : false ≡ true = (and_parts ((y == 39) || (y == 47)) false h).1 in cc)
-mark_parts (y ∷ z ∷ t) h = (y, ap (λ (j : ℕ). y ∷ j ∷ t) (is_same z 39 (and_parts ((y == 39) || (y == 47)) (z == 39) h).1))
+mark_parts (y ∷ z ∷ t) h = (y, ap (λ (j : ℕ). y ∷ j ∷ t) (eqb-true z 39 (and_parts ((y == 39) || (y == 47)) (z == 39) h).1))
 
 character_fits : (m : Mode) (s t before : List ℕ) → s ≡ before ++ t → 0 < length before → length s < 2 ^ 32 → FitsIn s (character_of m t).check
 character_fits m s t before is l few =
@@ -142,7 +139,7 @@ name_behind s =
 
 first_is : (n : ℕ) (s : List ℕ) → begins_of n s ≡ true → s ≡ n ∷ drop 1 s
 first_is n [] h = absurd (cc)
-first_is n (x ∷ s) h = ap (λ (y : ℕ). y ∷ s) (is_same x n h)
+first_is n (x ∷ s) h = ap (λ (y : ℕ). y ∷ s) (eqb-true x n h)
 
 lifetime_fits : (s t before : List ℕ) → s ≡ before ++ t → 0 < length before → FitsIn s (lifetime_of t).check
 lifetime_fits s t before is l =

@@ -1,6 +1,6 @@
 -- The first token of a text ends before a brace, or goes over it, whatever follows the brace.
 use Rattle.std.proofs.Common.{◌≡◌, ◌⊎◌, inl, inr, ℕ, ◌<◌, ◌≤◌, Bool, true, false, ◌==◌, ◌&&◌, ◌||◌, nat_le, if◌then◌else◌, List, [], ◌∷◌, ◌++◌, length, drop, ap, ◌∙◌, refl, arith}
-use Rattle.std.proofs.lemmas.Bool.{and_parts}
+use Rattle.std.proofs.lemmas.Bool.{and_parts, or_cases}
 use Rattle.syntax_kind.specs.declared.syntax_kind.SyntaxKind.TheVariants.{Token}
 use Rattle.syntax_kind.specs.declared.syntax_kind.token_kind.TokenKind.TheVariants as token
 use Rattle.literal_escape.specs.declared.mode.Mode.TheVariants as modes
@@ -34,10 +34,6 @@ begins n b h f g q y = begins_same n b (not_same n b h f g) q y
 
 tail : (n b : ℕ) (q y : List ℕ) → begins_of n q ≡ true → drop 1 (q ++ b ∷ y) ≡ drop 1 q ++ b ∷ y
 tail n b q y e = tail_same (λ (x : ℕ). x == n) b q y e
-
-one_true : (p r : Bool) → (p || r) ≡ true → (p ≡ true) ⊎ (r ≡ true)
-one_true true r h = inl refl
-one_true false r h = inr h
 
 shorter : (q text : List ℕ) → length q ≤ length text → length (drop 1 q) ≤ length text
 shorter [] text h = h
@@ -152,7 +148,7 @@ guard_ends : (b : ℕ) (text q : List ℕ) → IsBrace b → Ends (λ s. if open
 guard_ends b text q h =
     choose opens_raw_of (λ s. with_of (Token token.ERROR) (length (drop 1 s)) ReservedGuard) (sign_of 35) b text q (λ y. opens_raw_same b h q y)
     (λ k. with_ends (Token token.ERROR) ReservedGuard (drop 1) b text q
-    (λ y. elim (one_true (begins_of 34 q) (begins_of 35 q) k) [ inl l ↦ tail 34 b q y l | inr l ↦ tail 35 b q y l ]))
+    (λ y. elim (or_cases (begins_of 34 q) (begins_of 35 q) k) [ inl l ↦ tail 34 b q y l | inr l ↦ tail 35 b q y l ]))
     (λ k. sign_ended 35 b text q)
 
 pound_ends : (e : Edition) (b : ℕ) (text q : List ℕ) → IsBrace b → Ends (pound_of e) b text q

@@ -3,7 +3,7 @@ use Rattle.std.proofs.Common.{◌≡◌, ◌⊎◌, inl, inr, ℕ, zero, suc, �
 use Rattle.std.specs.Prelude.{IsUtf8, slice_get, cond}
 use Rattle.std.specs.Str.{trim_start, chars, skip_leading_whitespace}
 use lib.Utf8.{encode, encodes}
-use Rattle.std.proofs.lemmas.Bool.{cases_eq, and_parts}
+use Rattle.std.proofs.lemmas.Bool.{cases_eq, and_parts, cases_Bool, eqb-true, not-true}
 use Rattle.std.proofs.lemmas.Bool.Decides.{nat_tests}
 use Rattle.std.proofs.lemmas.Str.{encode_ascii, chars_past_char, IsUtf8-drop, IsCharBoundary-before_ascii}
 use Rattle.bstr.specs.Utf8.{Decoded, decoded, second, continues, bad, good, code_of_2, code_of_3, code_of_4}
@@ -46,20 +46,12 @@ heads_end a u v b h = ap₂ (λ (p r : Bool). p || r) (shebang_ends a u v b h) (
 
 -- ---- no fence
 
-either_true : (p : Bool) → (p ≡ true) ⊎ (p ≡ false)
-either_true true = inl refl
-either_true false = inr refl
-
 -- a byte that is not seen
 unseen : (x : ℕ) (s : List ℕ) → is_visible x ≡ false → may_be_fence (x ∷ s) ≡ may_be_fence s
 unseen x s h = ap (λ (p : Bool). if p then nat_eq x 45 else may_be_fence s) h
 
 high : (k x : ℕ) → 127 ≤ k → nat_lt k x ≡ true → is_visible x ≡ false
 high k x h l = grind (arith, nat_tests)
-
-negated : (r : Bool) → not r ≡ true → r ≡ false
-negated true h = absurd (cc)
-negated false h = refl
 
 second_on : (p : Bool) (u v : Bool) (x : ℕ) → (u ≡ true → is_visible x ≡ false) → (v ≡ true → is_visible x ≡ false) → cond p u v ≡ true → is_visible x ≡ false
 second_on true u v x f g h = f h
@@ -162,7 +154,7 @@ unfolding fine_below
 all_fine = refl
 
 not_both : (p r : Bool) → not (p && r) ≡ true → p ≡ true → r ≡ false
-not_both true r h k = negated r h
+not_both true r h k = not-true r h
 not_both false r h k = absurd (cc)
 
 picks : (p r : Bool) (u v w : Decoded) → p ≡ false → r ≡ true → cond p u (cond r v w) ≡ v
@@ -192,10 +184,7 @@ space_passed : (s : List ℕ) → begins_wide_of wides.Space s ≡ true → may_
 space_passed [] h k = absurd (cc)
 space_passed (x ∷ s) h k =
     let c = some_char is_space_of (decoded (x ∷ s)).char h in
-    (char_passed x s (space_unseen x s h (either_true (is_visible x)))).passes c.0 c.1 ∙ k
-
-equal : (m n : ℕ) → m ≡ n → nat_eq m n ≡ true
-equal m n h = grind (arith, nat_tests)
+    (char_passed x s (space_unseen x s h (cases_Bool (is_visible x)))).passes c.0 c.1 ∙ k
 
 unequal : (x n : ℕ) → (x ≡ n → ⊥) → (x == n) ≡ false
 unequal x n h = grind (arith, nat_tests)
@@ -234,9 +223,6 @@ right_false : (p t : Bool) → ((p && false) && t) ≡ false
 right_false true t = refl
 right_false false t = refl
 
-is_same : (x n : ℕ) → nat_eq x n ≡ true → x ≡ n
-is_same x n h = grind (arith, nat_tests)
-
 behind_marks : (x y z : ℕ) (s : List ℕ) → z < 128 → behind_two_of (x ∷ y ∷ z ∷ s) ≡ z ∷ s
 behind_marks x y z s h =
     let text : List ℕ = x ∷ y ∷ z ∷ s in
@@ -260,7 +246,7 @@ no_shebang (x ∷ []) u h = right_false (x == 35) (not (begins_of 91 (trim_start
 no_shebang (x ∷ y ∷ []) u h = shebang_on (x == 35) (y == 33) false (begins_of 91 (trim_start (behind_two_of (x ∷ y ∷ [])))) h (λ e. absurd (cc))
 no_shebang (x ∷ y ∷ z ∷ s) u h =
     shebang_on (x == 35) (y == 33) (nat_eq z 91) (begins_of 91 (trim_start (behind_two_of (x ∷ y ∷ z ∷ s)))) h (λ e.
-    let is : z ≡ 91 = is_same z 91 e in
+    let is : z ≡ 91 = eqb-true z 91 e in
     let small : z < 128 = omega (arith, is) in
     let text : IsUtf8 (z ∷ s) = IsUtf8-drop (x ∷ y ∷ z ∷ s) 2 u (IsCharBoundary-before_ascii (x ∷ y ∷ z ∷ s) 2 (omega arith) small) in
     ap (λ (t : List ℕ). begins_of 91 (trim_start t)) (behind_marks x y z s small)

@@ -1,10 +1,9 @@
 -- The kinds of the lexer's tokens by any test of kinds: where the test is 0 at each kind that the
 -- lexer gives to what is no sign, it is 0 at each token that is no sign.
-use Rattle.std.proofs.Common.{◌≡◌, ◌⊎◌, inl, inr, ℕ, ◌-◌, Bool, true, false, not, ◌==◌, ◌&&◌, ◌||◌, nat_lt, nat_le, if◌then◌else◌, Option, Some, List, [], ◌∷◌, length, drop, ap, sym, ◌∙◌, refl, arith}
+use Rattle.std.proofs.Common.{◌≡◌, ◌⊎◌, inl, inr, ℕ, ◌-◌, Bool, true, false, not, ◌==◌, ◌&&◌, ◌||◌, nat_lt, nat_le, if◌then◌else◌, Option, Some, List, [], ◌∷◌, length, drop, ap, sym, ◌∙◌, refl}
 use Rattle.std.specs.Prelude.{bytes_eq, codes, cond}
 use Rattle.std.specs.Map.{lookup}
-use Rattle.std.proofs.lemmas.Bool.{and_parts}
-use Rattle.std.proofs.lemmas.Bool.Decides.{nat_tests}
+use Rattle.std.proofs.lemmas.Bool.{and_parts, eqb-true}
 use Rattle.syntax_kind.specs.declared.syntax_kind.SyntaxKind.{SyntaxKind}
 use Rattle.syntax_kind.specs.declared.syntax_kind.SyntaxKind.TheVariants.{Token}
 use Rattle.syntax_kind.specs.declared.syntax_kind.token_kind.TokenKind.{TokenKind}
@@ -67,9 +66,6 @@ is_null_beside_signs f = are_null f plain_kinds && all_editions (are_words_null 
 abbrev pub IsSign : (SyntaxKind → ℕ) → ℕ → List ℕ → Shape → Type 0
 IsSign f x s t = (f t.kind ≡ 0) ⊎ (t ≡ sign_of x s)
 
-left_zero : (n : ℕ) (r : Bool) → ((n == 0) && r) ≡ true → n ≡ 0
-left_zero n r h = grind (arith, nat_tests)
-
 all_true : (a b c d : Bool) → (a && b && c && d) ≡ true → (a ≡ true) × (b ≡ true) × (c ≡ true) × (d ≡ true)
 all_true true true true d h = (refl, refl, refl, h)
 all_true true true false d h = absurd (let bad : false ≡ true = h in cc)
@@ -96,7 +92,7 @@ null_in f [] k h m = absurd (let bad : false ≡ true = m in cc)
 null_in f (j ∷ js) k h m = by (is_same_kind j k) refl m (null_in f js k (and_parts (f j == 0) (are_null f js) h).1)
   where
     by : (b : Bool) → is_same_kind j k ≡ b → (b || is_among js k) ≡ true → (is_among js k ≡ true → f k ≡ 0) → f k ≡ 0
-    by true e n later = ap f (sym ((is_same_kind-equal j k).0 e)) ∙ left_zero (f j) (are_null f js) h
+    by true e n later = ap f (sym ((is_same_kind-equal j k).0 e)) ∙ eqb-true (f j) 0 (and_parts (f j == 0) (are_null f js) h).0
     by false e n later = later n
 
 -- ---- the kinds of literals and comments do not depend on where these end
@@ -161,7 +157,7 @@ module _ (f : SyntaxKind → ℕ) (given : is_null_beside_signs f ≡ true) wher
   found_null : (w : List ℕ) (ws : Words) → are_null f (word_kinds ws) ≡ true → f (word_on (lookup (bytes_eq w) ws)) ≡ 0
   found_null w [] h = null token.IDENT refl
   found_null w (x ∷ ws) h =
-      word_on_null (bytes_eq w x.0) x.1 (lookup (bytes_eq w) ws) (left_zero (f x.1) (are_null f (word_kinds ws)) h)
+      word_on_null (bytes_eq w x.0) x.1 (lookup (bytes_eq w) ws) (eqb-true (f x.1) 0 (and_parts (f x.1 == 0) (are_null f (word_kinds ws)) h).0)
       (found_null w ws (and_parts (f x.1 == 0) (are_null f (word_kinds ws)) h).1)
 
   word_null : (e : Edition) (w : List ℕ) → f (word_kind_of e w) ≡ 0
@@ -327,11 +323,8 @@ abbrev pub all_signs : (ℕ → SyntaxKind → Bool) → Signs → Bool
 all_signs g [] = true
 all_signs g (r ∷ rs) = g r.0 r.1 && all_signs g rs
 
-is_same : (b n : ℕ) → (b == n) ≡ true → n ≡ b
-is_same b n h = grind (arith, nat_tests)
-
 sign_on : (g : ℕ → SyntaxKind → Bool) (b n : ℕ) (k l : SyntaxKind) (c : Bool) → (b == n) ≡ c → g n k ≡ true → g b l ≡ true → g b (if c then k else l) ≡ true
-sign_on g b n k l true e h r = ap (λ (m : ℕ). g m k) (sym (is_same b n e)) ∙ h
+sign_on g b n k l true e h r = ap (λ (m : ℕ). g m k) (eqb-true b n e) ∙ h
 sign_on g b n k l false e h r = r
 
 sign_found : (g : ℕ → SyntaxKind → Bool) (b : ℕ) (rs : Signs) → g b (Token token.ERROR) ≡ true → all_signs g rs ≡ true → g b (sign_in rs b) ≡ true

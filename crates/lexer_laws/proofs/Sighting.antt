@@ -2,7 +2,7 @@
 use Rattle.std.proofs.Common.{◌≡◌, ◌⊎◌, inl, inr, ℕ, zero, suc, ◌+◌, ◌-◌, ◌<◌, ◌≤◌, Bool, true, false, ◌==◌, ◌&&◌, ◌||◌, nat_lt, nat_le, if◌then◌else◌, List, [], ◌∷◌, ◌++◌, length, drop, take, ap, ap₂, sym, ◌∙◌, refl, arith, append_assoc, append-nil, take-append-drop, length-drop, length-take}
 use Rattle.std.specs.Prelude.{slice_get}
 use Rattle.std.proofs.Math.Seq.{drop-append_seam}
-use Rattle.std.proofs.lemmas.Bool.{cases_eq, and_parts}
+use Rattle.std.proofs.lemmas.Bool.{cases_eq, and_parts, cases_Bool, eqb-true, ltb-true}
 use Rattle.std.proofs.lemmas.Bool.Decides.{nat_tests}
 use Rattle.std.proofs.lemmas.List.{take-append-le, drop-append-le}
 use Rattle.syntax_kind.specs.declared.syntax_kind.SyntaxKind.{SyntaxKind}
@@ -35,15 +35,12 @@ empty_below : ℕ → ℕ → Bool
 empty_below left zero = true
 empty_below left (suc n) = (joined_of left n == 0) && empty_below left n
 
-is_zero : (n : ℕ) → (n == 0) ≡ true → n ≡ 0
-is_zero n h = grind (arith, nat_tests)
-
 empty_at : (left n i : ℕ) → empty_below left n ≡ true → i < n → joined_of left i ≡ 0
 unfolding empty_below
 empty_at left zero i h l = absurd (omega (arith, l))
 empty_at left (suc n) i h l =
     elim (cases_eq i n) [
-      | inl same ↦ ap (joined_of left) same ∙ is_zero (joined_of left n) (and_parts (joined_of left n == 0) (empty_below left n) h).0
+      | inl same ↦ ap (joined_of left) same ∙ eqb-true (joined_of left n) 0 (and_parts (joined_of left n == 0) (empty_below left n) h).0
       | inr other ↦ empty_at left n i (and_parts (joined_of left n == 0) (empty_below left n) h).1 (omega (arith, l, other))
     ]
 
@@ -55,33 +52,26 @@ none_behind : empty_below 21 43 ≡ true
 unfolding empty_below
 none_behind = refl
 
-either_true : (p : Bool) → (p ≡ true) ⊎ (p ≡ false)
-either_true true = inl refl
-either_true false = inr refl
-
 beyond_signs : (sign : ℕ) → nat_lt sign 43 ≡ false → nat_le 19 (sign - 24) ≡ true
 beyond_signs sign h = grind (arith, nat_tests)
 
-is_below : (n k : ℕ) → nat_lt n k ≡ true → n < k
-is_below n k h = grind (arith, nat_tests)
-
 row_on : (left sign : ℕ) → empty_below left 43 ≡ true → (nat_lt sign 43 ≡ true) ⊎ (nat_lt sign 43 ≡ false) → joined_of left sign ≡ 0
-row_on left sign h (inl k) = empty_at left 43 sign h (is_below sign 43 k)
+row_on left sign h (inl k) = empty_at left 43 sign h (ltb-true sign 43 k)
 row_on left sign h (inr k) = second_holds (nat_lt sign 24) (nat_le 19 (sign - 24)) _ (beyond_signs sign k)
 
 -- nothing is joined with no token, and nothing with a brace
 pub no_left : (sign : ℕ) → joined_of 0 sign ≡ 0
-no_left sign = row_on 0 sign none_before (either_true (nat_lt sign 43))
+no_left sign = row_on 0 sign none_before (cases_Bool (nat_lt sign 43))
 
 none_behind_open : empty_below 20 43 ≡ true
 unfolding empty_below
 none_behind_open = refl
 
 pub no_right_open : (sign : ℕ) → joined_of 20 sign ≡ 0
-no_right_open sign = row_on 20 sign none_behind_open (either_true (nat_lt sign 43))
+no_right_open sign = row_on 20 sign none_behind_open (cases_Bool (nat_lt sign 43))
 
 no_right : (sign : ℕ) → joined_of 21 sign ≡ 0
-no_right sign = row_on 21 sign none_behind (either_true (nat_lt sign 43))
+no_right sign = row_on 21 sign none_behind (cases_Bool (nat_lt sign 43))
 
 -- ---- what is seen
 

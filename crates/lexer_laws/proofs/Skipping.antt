@@ -1,5 +1,6 @@
 -- Names, suffixes and white space past ASCII end before a brace.
 use Rattle.std.proofs.Common.{◌≡◌, ℕ, zero, suc, ◌≤◌, Bool, true, false, ◌==◌, ◌||◌, nat_lt, nat_le, if◌then◌else◌, List, [], ◌∷◌, ◌++◌, length, ap, sym, ◌∙◌, refl, arith}
+use Rattle.std.proofs.lemmas.Bool.{or_from}
 use Rattle.std.proofs.lemmas.List.{length-drop}
 use Rattle.unicode_ident.proofs.IdentLemmas.{is_xid_continue-ascii}
 use Rattle.bstr.specs.Utf8.{Decoded, decoded}
@@ -11,7 +12,7 @@ use Rattle.rust_lexer.specs.Classes.{test_on, begins_beyond_of, begins_digit_of,
 use Rattle.rust_lexer.specs.Names.{begins_wide_name_of, begins_name_of, begins_emoji_of, begins_wide_emoji_of, is_literal_mark_of, skip_name_of, skip_suffix_of}
 use Rattle.rust_lexer.proofs.NameFronts.{decoded_some}
 use Rattle.lexer_laws.specs.Behind.{IsBrace}
-use Rattle.lexer_laws.proofs.Tests.{at_brace, test_same, not_same, and_same, or_same, skip_same, longer}
+use Rattle.lexer_laws.proofs.Tests.{at_brace, test_same, not_same, and_same, skip_same, longer}
 use Rattle.lexer_laws.proofs.Decoding.{brace_decoded, after_char_same, char_same}
 
 no_continue : (b : ℕ) → IsBrace b → is_name_continue_of b ≡ false
@@ -20,15 +21,12 @@ no_continue b h = at_brace is_name_continue_of b h (is_xid_continue-ascii 123 (o
 no_emoji : (b : ℕ) → IsBrace b → is_emoji_of b ≡ false
 no_emoji b h = at_brace is_emoji_of b h refl refl
 
-neither : (p r : Bool) → p ≡ false → r ≡ false → (p || r) ≡ false
-neither p r h k = or_same p false r false h k
-
 -- a brace is in none of the classes of characters
 pub not_wide : (w : Wide) (b : ℕ) → IsBrace b → is_wide_of w b ≡ false
 not_wide wides.Space b h = at_brace (λ (c : ℕ). is_wide_of wides.Space c) b h refl refl
 not_wide wides.Name b h = no_continue b h
 not_wide wides.Emoji b h =
-    neither (is_name_continue_of b || is_emoji_of b) (b == 0x200d) (neither (is_name_continue_of b) (is_emoji_of b) (no_continue b h) (no_emoji b h))
+    or_from (is_name_continue_of b || is_emoji_of b) (b == 0x200d) (or_from (is_name_continue_of b) (is_emoji_of b) (no_continue b h) (no_emoji b h))
     (not_same 0x200d b h refl refl)
 
 at_wide : (test : ℕ → Bool) (b : ℕ) → IsBrace b → test b ≡ false → (y : List ℕ) → test_on test (decoded (b ∷ y)).char ≡ false

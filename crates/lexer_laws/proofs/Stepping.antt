@@ -1,5 +1,6 @@
 -- The tokens of a text that is not at the head of a file, one after the other.
 use Rattle.std.proofs.Common.{◌≡◌, ◌⊎◌, inl, inr, ℕ, zero, suc, ◌-◌, ◌<◌, ◌≤◌, Bool, true, false, ◌==◌, if◌then◌else◌, List, [], ◌∷◌, ◌++◌, length, ap, sym, ◌∙◌, refl, arith, append_assoc, append-nil, length-drop, length-take}
+use Rattle.std.proofs.lemmas.Bool.{cases_Bool}
 use Rattle.std.proofs.lemmas.Bool.Decides.{nat_tests}
 use Rattle.ras_front_end.specs.declared.edition.Edition.{Edition}
 use Rattle.token_layout.specs.declared.span.Token as span
@@ -43,10 +44,6 @@ from_end : (e : Edition) (s : List ℕ) → tokens_from 0 e s ≡ []
 unfolding tokens_from
 from_end e s = refl
 
-either_true : (p : Bool) → (p ≡ true) ⊎ (p ≡ false)
-either_true true = inl refl
-either_true false = inr refl
-
 step_tokens : (n : ℕ) (e : Edition) (text : List ℕ) (l : Lexing) → ((k : Lexing) → (steps_of n e text k).tokens ≡ k.tokens ++ tokens_from n e k.rest)
     → ((length l.rest == 0) ≡ true) ⊎ ((length l.rest == 0) ≡ false) → (steps_of (suc n) e text l).tokens ≡ l.tokens ++ tokens_from (suc n) e l.rest
 step_tokens n e text l f (inl h) =
@@ -62,7 +59,7 @@ pub steps_tokens : (n : ℕ) (e : Edition) (text : List ℕ) (l : Lexing) → (s
 steps_tokens zero e text l =
     ap (λ (k : Lexing). k.tokens) (steps-end 0 e text l refl)
     ∙ sym (ap (λ (ts : List span.Token). l.tokens ++ ts) (from_end e l.rest) ∙ append-nil l.tokens)
-steps_tokens (suc n) e text l = step_tokens n e text l (λ k. steps_tokens n e text k) (either_true (length l.rest == 0))
+steps_tokens (suc n) e text l = step_tokens n e text l (λ k. steps_tokens n e text k) (cases_Bool (length l.rest == 0))
 
 within_from : (e : Edition) (s : List ℕ) → tokens_within e s ≡ tokens_from (length s) e s
 within_from e s = steps_tokens (length s) e s (fresh s)

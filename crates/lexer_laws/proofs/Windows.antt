@@ -1,10 +1,10 @@
 -- A text in which a window between braces was replaced.
-use Rattle.std.proofs.Common.{◌≡◌, ◌⊎◌, inl, inr, ℕ, suc, ◌+◌, ◌-◌, ◌<◌, ◌^◌, Bool, true, false, ◌&&◌, ◌||◌, nat_eq, if◌then◌else◌, List, [], ◌∷◌, ◌++◌, length, take, drop, ap, ap₂, sym, ◌∙◌, refl, arith, subst, append-nil, length-append}
+use Rattle.std.proofs.Common.{◌≡◌, ◌⊎◌, inl, inr, ℕ, suc, ◌+◌, ◌-◌, ◌<◌, ◌^◌, Bool, true, false, ◌&&◌, nat_eq, if◌then◌else◌, List, [], ◌∷◌, ◌++◌, length, take, drop, ap, ap₂, sym, ◌∙◌, refl, arith, subst, append-nil, length-append}
 use Rattle.std.specs.Prelude.{IsUtf8}
 use Rattle.std.specs.List.{flat_map}
 use Rattle.std.specs.Str.{trim_start, chars}
 use Rattle.std.proofs.Math.Seq.{drop-append_seam, take-append_seam}
-use Rattle.std.proofs.lemmas.Bool.Decides.{nat_tests}
+use Rattle.std.proofs.lemmas.Bool.{cases_Bool, eqb-true, or_from, or_parts}
 use Rattle.syntax_kind.specs.declared.syntax_kind.SyntaxKind.{SyntaxKind}
 use Rattle.syntax_kind.specs.declared.syntax_kind.SyntaxKind.TheVariants as kinds
 use Rattle.ras_front_end.specs.declared.edition.Edition.{Edition}
@@ -47,17 +47,6 @@ of_brace k (inr h) =
 
 -- ---- a window at the start of the text
 
-left_false : (p q : Bool) → (p || q) ≡ false → p ≡ false
-left_false true q h = absurd (cc)
-left_false false q h = refl
-
-right_false : (p q : Bool) → (p || q) ≡ false → q ≡ false
-right_false true q h = absurd (cc)
-right_false false q h = h
-
-both_false : (p q : Bool) → p ≡ false → q ≡ false → (p || q) ≡ false
-both_false p q h k = ap₂ (λ (x y : Bool). x || y) h k
-
 fence_on : (b f g : Bool) (d : Bool) → (f ≡ false → g ≡ false) → (if b then d else f) ≡ false → (if b then d else g) ≡ false
 fence_on true f g d k h = h
 fence_on false f g d k h = k h
@@ -70,16 +59,9 @@ fence_front (b ∷ w) c h = fence_on (is_visible b) (may_be_fence (w ++ c)) (may
 abbrev mark : List ℕ
 mark = 35 ∷ 33 ∷ []
 
-either_true : (p : Bool) → (p ≡ true) ⊎ (p ≡ false)
-either_true true = inl refl
-either_true false = inr refl
-
 and_none : (p : Bool) → (p && false) ≡ false
 and_none true = refl
 and_none false = refl
-
-is_equal : (n b : ℕ) → nat_eq n b ≡ true → n ≡ b
-is_equal n b h = grind (arith, nat_tests)
 
 first_fails : (p q : Bool) → p ≡ false → (p && q) ≡ false
 first_fails p q h = ap (λ (x : Bool). x && q) h
@@ -89,20 +71,20 @@ second_fails p q r h = ap (λ (x : Bool). p && (x && r)) h ∙ and_none p
 
 shebang_two : (x y : ℕ) → (nat_eq x 35 ≡ true) ⊎ (nat_eq x 35 ≡ false) → (nat_eq y 33 ≡ true) ⊎ (nat_eq y 33 ≡ false)
     → (may_be_shebang (x ∷ y ∷ []) ≡ false) ⊎ (x ∷ y ∷ [] ≡ mark)
-shebang_two x y (inl h) (inl k) = inr (ap₂ (λ (n m : ℕ). n ∷ m ∷ []) (is_equal x 35 h) (is_equal y 33 k))
+shebang_two x y (inl h) (inl k) = inr (ap₂ (λ (n m : ℕ). n ∷ m ∷ []) (eqb-true x 35 h) (eqb-true y 33 k))
 shebang_two x y (inl h) (inr k) = inl (second_fails (nat_eq x 35) (nat_eq y 33) true k)
 shebang_two x y (inr h) k = inl (first_fails (nat_eq x 35) (nat_eq y 33 && true) h)
 
 shebang_front : (w c : List ℕ) → may_be_shebang (w ++ c) ≡ false → (may_be_shebang w ≡ false) ⊎ (w ≡ mark)
 shebang_front [] c h = inl refl
 shebang_front (x ∷ []) c h = inl (and_none (nat_eq x 35))
-shebang_front (x ∷ y ∷ []) c h = shebang_two x y (either_true (nat_eq x 35)) (either_true (nat_eq y 33))
+shebang_front (x ∷ y ∷ []) c h = shebang_two x y (cases_Bool (nat_eq x 35)) (cases_Bool (nat_eq y 33))
 shebang_front (x ∷ y ∷ z ∷ w) c h = inl h
 
 head_front : (w c : List ℕ) → may_have_head (w ++ c) ≡ false → (may_have_head w ≡ false) ⊎ (w ≡ mark)
 head_front w c h =
-    elim (shebang_front w c (left_false (may_be_shebang (w ++ c)) (may_be_fence (w ++ c)) h)) [
-      | inl none ↦ inl (both_false (may_be_shebang w) (may_be_fence w) none (fence_front w c (right_false (may_be_shebang (w ++ c)) (may_be_fence (w ++ c)) h)))
+    elim (shebang_front w c (or_parts (may_be_shebang (w ++ c)) (may_be_fence (w ++ c)) h).0) [
+      | inl none ↦ inl (or_from (may_be_shebang w) (may_be_fence w) none (fence_front w c (or_parts (may_be_shebang (w ++ c)) (may_be_fence (w ++ c)) h).1))
       | inr is ↦ inr is
     ]
 

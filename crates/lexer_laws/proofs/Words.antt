@@ -2,7 +2,7 @@
 use Rattle.std.proofs.Common.{◌≡◌, ◌⊎◌, inl, inr, ℕ, suc, ◌+◌, ◌-◌, ◌<◌, ◌≤◌, Bool, true, false, not, ◌==◌, ◌&&◌, ◌||◌, nat_lt, nat_le, if◌then◌else◌, List, [], ◌∷◌, ◌++◌, length, take, slice_index, ap, ap₂, sym, ◌∙◌, refl, arith}
 use Rattle.std.specs.Prelude.{bytes_eq, codes}
 use Rattle.std.specs.Str.{IsCharBoundary}
-use Rattle.std.proofs.lemmas.Bool.{cases_eq}
+use Rattle.std.proofs.lemmas.Bool.{cases_eq, cases_Bool, eq-eqb}
 use Rattle.std.proofs.lemmas.Bool.Decides.{nat_tests}
 use Rattle.std.proofs.lemmas.List.{take-append-le, get_or_append_left}
 use Rattle.syntax_kind.specs.declared.syntax_kind.SyntaxKind.TheVariants.{Token}
@@ -23,10 +23,6 @@ use Rattle.lexer_laws.proofs.Ending.{Ends, ended, choose, with_ends, skipped_end
 
 -- ---- where the text is cut
 
-either_true : (p : Bool) → (p ≡ true) ⊎ (p ≡ false)
-either_true true = inl refl
-either_true false = inr refl
-
 -- the text is taken as a whole, since it cannot be cut before its last n bytes
 abbrev pub is_whole : ℕ → List ℕ → Bool
 is_whole n s = ((length s - n) == 0) || not (is_boundary_of (length s - n) s)
@@ -36,9 +32,6 @@ below i n h = grind (arith, nat_tests)
 
 differ : (i n : ℕ) → i < n → (n == i) ≡ false
 differ i n h = grind (arith, nat_tests)
-
-equal : (m n : ℕ) → m ≡ n → (m == n) ≡ true
-equal m n h = grind (arith, nat_tests)
 
 -- the byte at i, and whether it is there, decide
 pub boundary_at : (i n c : ℕ) → i < n → ((n == i) || (nat_lt i n && (nat_lt c 128 || nat_le 192 c))) ≡ (nat_lt c 128 || nat_le 192 c)
@@ -64,7 +57,7 @@ last_boundary i b h q y e =
     ∙ ap (λ (j : ℕ). nat_lt (slice_index (q ++ b ∷ y) j) 128 || nat_le 192 (slice_index (q ++ b ∷ y) j)) e
     ∙ ap (λ (c : ℕ). nat_lt c 128 || nat_le 192 c) (byte_behind q y b)
     ∙ or_true (nat_lt b 128) (nat_le 192 b) (holds_at_brace (λ (c : ℕ). nat_lt c 128) b h refl refl)
-    ∙ sym (or_true (length q == i) (nat_lt i (length q) && (nat_lt (slice_index q i) 128 || nat_le 192 (slice_index q i))) (equal (length q) i (sym e)))
+    ∙ sym (or_true (length q == i) (nat_lt i (length q) && (nat_lt (slice_index q i) 128 || nat_le 192 (slice_index q i))) (eq-eqb (length q) i (sym e)))
 
 in_or_at : (i n : ℕ) → i ≤ n → (i < n) ⊎ (i ≡ n)
 in_or_at i n h = elim (cases_eq i n) [ inl same ↦ inr same | inr other ↦ inl (omega (arith, h, other)) ]
@@ -129,7 +122,7 @@ made_on f g b q h k m r (inr e) =
 made_ends : (f : List ℕ → ℕ → Shape) (g : List ℕ → List ℕ) (b : ℕ) (q : List ℕ) → IsBrace b → ((y : List ℕ) → g (q ++ b ∷ y) ≡ g q ++ b ∷ y)
     → ((w : List ℕ) (n k : ℕ) → f w (n + k) ≡ before k (f w n)) → ((w : List ℕ) (n : ℕ) → (f w n).left ≡ n)
     → Ends (λ s. f (front_of (length (g s)) s) (length (g s))) b q q
-made_ends f g b q h k m r = made_on f g b q h k m r (either_true (is_whole (length (g q)) q))
+made_ends f g b q h k m r = made_on f g b q h k m r (cases_Bool (is_whole (length (g q)) q))
 
 prefix_on : (p : Bool) (n k : ℕ)
     → (if p then plain_of (Token token.IDENT) (n + k) else record { kind = Token token.IDENT; left = n + k; check = Prefix })
@@ -169,14 +162,14 @@ reaches : (c n : ℕ) → nat_lt c n ≡ false → n ≤ c
 reaches c n h = grind (arith, nat_tests)
 
 byte_starts : (c : ℕ) → (128 ≤ c → 192 ≤ c) → (nat_lt c 128 || nat_le 192 c) ≡ true
-byte_starts c h = elim (either_true (nat_lt c 128)) [
+byte_starts c h = elim (cases_Bool (nat_lt c 128)) [
   | inl k ↦ or_true (nat_lt c 128) (nat_le 192 c) k
   | inr k ↦ either_way (nat_lt c 128) (nat_le 192 c) (at_most 192 c (h (reaches c 128 k)))
 ]
 
 starts_on : (i : ℕ) (s : List ℕ) → IsCharBoundary s i → (i < length s) ⊎ (i ≡ length s) → is_boundary_of i s ≡ true
 starts_on i s h (inl k) = boundary_at i (length s) (slice_index s i) k ∙ byte_starts (slice_index s i) (h.1 k)
-starts_on i s h (inr k) = or_true (length s == i) (nat_lt i (length s) && (nat_lt (slice_index s i) 128 || nat_le 192 (slice_index s i))) (equal (length s) i (sym k))
+starts_on i s h (inr k) = or_true (length s == i) (nat_lt i (length s) && (nat_lt (slice_index s i) 128 || nat_le 192 (slice_index s i))) (eq-eqb (length s) i (sym k))
 
 -- a character begins there
 pub boundary_starts : (i : ℕ) (s : List ℕ) → IsCharBoundary s i → is_boundary_of i s ≡ true
