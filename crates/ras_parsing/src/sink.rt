@@ -119,6 +119,23 @@ pub(crate) struct Read {
     pub parser_errors: usize,
 }
 
+// The C library's allocator gives free memory back to the system, unless it is less than twice the
+// largest block that was ever freed, of at most 32 MiB. A parse takes some 20 bytes for each byte
+// of the text, its largest list 7. Without a larger block each parse of a file of 190 KB would take
+// its memory as 730 new pages, a fifth of its time.
+const KEPT: usize = 12;
+
+const MOST_KEPT: usize = 33_554_432;
+
+// Has the memory of a parse kept for the next one. No page of the block is touched.
+#[inline(never)]
+fn keep_memory(alloc: Global, text: &str) -> Result<(), AllocError> {
+    let bytes = text.len().saturating_mul(KEPT).min(MOST_KEPT);
+    let block: Vec<u8> = Vec::with_capacity(alloc, bytes)?;
+    drop(block);
+    Ok(())
+}
+
 /// The tree that a front end makes of a text, and its errors. No list of all steps is made.
 pub(crate) fn read_tree<F: FrontEnd>(
     alloc: Global,
@@ -137,6 +154,7 @@ pub(crate) fn read_tree<F: FrontEnd>(
     ensures counted { IfOk result (λ r. r.parser_errors
         ≡ length (step_faults ((F.answers front.now).parsed entry edition text.now).steps)) }
 {
+    keep_memory(alloc, text)?;
     let (sink, mut lexer_errors) = front.parse_into::<TreeSink>(alloc, entry, text, edition)?;
     let TreeSink { rows, mut errors } = sink;
     let parser_errors = errors.len();
