@@ -131,6 +131,18 @@ void rattle_dealloc(void *at);
 /* No choice of errors has the number. Nothing was written. */
 #define RAS_NO_CHOICE 12u
 
+/* A unit that is a character: its value is the character's number. */
+#define RAS_UNIT_CHAR 0u
+
+/*
+ * A unit that is a byte from 80 (hexadecimal) on, as \xff of a byte string or a C string: its
+ * value is the byte.
+ */
+#define RAS_UNIT_BYTE 1u
+
+/* A unit that is wrong, or a warning: its value is the status of the fault, from RAS_FAULT on. */
+#define RAS_UNIT_FAULT 2u
+
 /* An integer without a digit. Nothing was written. */
 #define RAS_NO_DIGIT 8u
 
@@ -147,7 +159,7 @@ void rattle_dealloc(void *at);
 #define RAS_FAULT 64u
 
 /* A number made of the kinds, constants, structs and calls of the library. Bindings that know another number were made for others. */
-#define RAS_VERSION 3409237994u
+#define RAS_VERSION 3782936847u
 
 /* The statuses of a wrong escape or character. */
 enum ras_fault {
@@ -638,6 +650,18 @@ typedef struct {
     ras_tree_owner owner;
 } ras_tree_rows;
 
+/* One unit of a string literal: a character or an escape. */
+typedef struct {
+    /* The byte of the literal's text where it starts. */
+    uint32_t start;
+    /* The byte where it ends. */
+    uint32_t end;
+    /* What it is: RAS_UNIT_CHAR, RAS_UNIT_BYTE or RAS_UNIT_FAULT. */
+    uint32_t sort;
+    /* The number of the character, the byte, or the status of the fault. */
+    uint32_t value;
+} ras_unit_row;
+
 /* What a word is in an edition. */
 typedef struct {
     /*
@@ -1019,6 +1043,25 @@ uint32_t ras_c_take_tree(
  */
 void ras_c_free_tree(
     ras_tree_rows *tree);
+
+/*
+ * Writes the units of a string, a byte string or a C string with this text, quotes and prefix with
+ * it, to the front of units: each character and each escape with its range in the text, and its
+ * character, byte or fault. Of "a\n" these are a at 1..2 and a line feed at 2..4.
+ *
+ * A text that begins with b is a byte string, one with c a C string, any other a string. Of a
+ * raw one each character is a unit. A backslash before a line feed is no unit, with the blanks
+ * after it, but each warning about these is one. A text without two quotes has no units.
+ *
+ * Returns RAS_OK, RAS_NOT_UTF8, RAS_TOO_LONG, RAS_NO_MEMORY or RAS_NO_ROOM. It takes time linear
+ * in the text, and there are at most as many units as bytes.
+ */
+uint32_t ras_c_char_ranges(
+    const uint8_t *text,
+    size_t text_len,
+    ras_unit_row *units,
+    size_t units_len,
+    uint32_t *count);
 
 /*
  * Writes the value of a string with this text, quotes and prefix with it, to the front of value,

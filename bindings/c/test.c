@@ -324,6 +324,33 @@ static void values(void) {
          && found[2].kind == RAS_KIND_FN_KW + 0x80000000u, "the header numbers the kinds");
 }
 
+/* The units of a literal's text are these rows, in a buffer that has room for more and in one that has no room. */
+static void has_units(const char *text, const ras_unit_row *units, uint32_t number) {
+    ras_unit_row found[8];
+    uint32_t count = 9, needed = 9;
+    memset(found, 7, sizeof found);
+    owes(ras_c_char_ranges(BYTES(text), found, 8, &count) == RAS_OK && count == number && !memcmp(found, units, number * sizeof *units)
+        && found[number].start == 0x07070707u, text);
+    owes(ras_c_char_ranges(BYTES(text), NULL, 0, &needed) == (number ? RAS_NO_ROOM : RAS_OK) && needed == number, text);
+}
+
+static void units(void) {
+    has_units("\"a\\n\xc3\xa9\"", (ras_unit_row[]){{1, 2, RAS_UNIT_CHAR, 'a'}, {2, 4, RAS_UNIT_CHAR, '\n'}, {4, 6, RAS_UNIT_CHAR, 0xE9}}, 3);
+    has_units("r#\"a\\n\"#", (ras_unit_row[]){{3, 4, RAS_UNIT_CHAR, 'a'}, {4, 5, RAS_UNIT_CHAR, '\\'}, {5, 6, RAS_UNIT_CHAR, 'n'}}, 3);
+    has_units("b\"\\xff\\q\"", (ras_unit_row[]){{2, 6, RAS_UNIT_BYTE, 255}, {6, 8, RAS_UNIT_FAULT, RAS_FAULT_INVALID_ESCAPE}}, 2);
+    has_units("c\"\xc3\xa9\\xe9\\0\"", (ras_unit_row[]){{2, 4, RAS_UNIT_CHAR, 0xE9}, {4, 8, RAS_UNIT_BYTE, 0xE9}, {8, 10, RAS_UNIT_FAULT, RAS_FAULT_NUL_IN_C_STR}}, 3);
+    has_units("cr\"\\0\"", (ras_unit_row[]){{3, 4, RAS_UNIT_CHAR, '\\'}, {4, 5, RAS_UNIT_CHAR, '0'}}, 2);
+    has_units("\"\\\n\n b\"", (ras_unit_row[]){{1, 5, RAS_UNIT_FAULT, RAS_FAULT_MULTIPLE_SKIPPED_LINES_WARNING}, {5, 6, RAS_UNIT_CHAR, 'b'}}, 2);
+    has_units("\"\"", NULL, 0);
+    has_units("\"a", NULL, 0);
+    has_units("'a'", NULL, 0);
+    has_units("", NULL, 0);
+    ras_unit_row none = {7, 7, 7, 7};
+    uint32_t count = 9;
+    owes(ras_c_char_ranges(BYTES("\"\xff\""), &none, 1, &count) == RAS_NOT_UTF8 && count == 9 && none.start == 7, "bad UTF-8 has no units");
+    owes(ras_c_char_ranges(BYTES("\"ab\""), &none, 1, &count) == RAS_NO_ROOM && count == 2 && none.start == 7, "a refused call writes no unit");
+}
+
 static uint32_t rows_of(ras_handle *handle, ras_flat_row *out, size_t room, ras_counts *counts) {
     return ras_c_rows(handle, out, room, errors, ERRORS, messages, MESSAGES, counts);
 }
@@ -650,6 +677,10 @@ static void refuses(void) {
     count = 9;
     status = ras_c_string_value(BYTES("\"\\n\""), value, sizeof value, &count);
     owes(status == RAS_OK || (status == RAS_NO_MEMORY && count == 9 && value[0] == 7), "string_value is done or refused");
+    ras_unit_row unit = {7, 7, 7, 7};
+    count = 9;
+    status = ras_c_char_ranges(BYTES("\"\\n\""), &unit, 1, &count);
+    owes(status == RAS_OK || (status == RAS_NO_MEMORY && count == 9 && unit.start == 7), "char_ranges is done or refused");
     count = 9;
     status = ras_c_read_as(RAS_ENTRY_FILE, RAS_PARSE_ERRORS, BYTES(TEXT), 2024, rows, ROWS, errors, ERRORS, messages, MESSAGES, &counts);
     owes(status == RAS_OK || status == RAS_NO_MEMORY, "read_as is done or refused");
@@ -677,6 +708,7 @@ int main(void) {
     tokens_and_parens();
     places();
     values();
+    units();
     edits();
     tells_what_is_new();
     tells_violations_of_a_part();

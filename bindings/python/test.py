@@ -200,6 +200,19 @@ class Trees(unittest.TestCase):
         for text in ("0b_", "0b12", str(2**128)):
             self.assertRaises(ValueError, value, text)
 
+    def test_strings_have_units(self):
+        for prefix, kind, unit in (("", "STRING", "\u00e9"), ("b", "BYTE_STRING", "e"), ("c", "C_STRING", "\u00e9")):
+            string = next(ras.parse(f'const \u00c0: T = {prefix}"a{unit}\\n";').find(kind))
+            texts = [string.tree.data[it.start : it.end].decode() for it in string.units()]
+            self.assertEqual((texts, [it.value for it in string.units()]), (["a", unit, "\\n"], ["a", unit, "\n"]))
+            self.assertEqual(string.units()[0].start, string.start + len(prefix) + 1)
+            raw = next(ras.parse(f'const A: T = {prefix}r"\\n";').find(kind))
+            self.assertEqual([it.value for it in raw.units()], ["\\", "n"])
+        units = next(ras.parse('const A: T = c"\\xff\\q\\\n\n";').find("C_STRING")).units()
+        self.assertEqual(units[0].value, 255)
+        self.assertEqual([it.value.name for it in units[1:]], ["InvalidEscape", "MultipleSkippedLinesWarning"])
+        self.assertEqual([it.units() for it in ras.parse("const A: T = 'a';").root.descendants() if it.units()], [])
+
     def test_a_tree_is_edited(self):
         tree = ras.parse("fn f() { \u00e9 + b }")
         self.assertEqual(tree.edit([(14, 15, "c"), (3, 4, b"g"), (3, 3, "h")]).text, "fn hg() { \u00e9 + c }")

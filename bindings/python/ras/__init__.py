@@ -23,7 +23,7 @@ import weakref
 from . import _raw
 
 __all__ = [
-    "Element", "EscapeError", "LineCol", "Live", "Match", "ParseError", "RewriteError", "RuleError", "SyntaxError", "Tree", "contextual_keyword", "is_identifier",
+    "Element", "EscapeError", "LineCol", "Live", "Match", "ParseError", "RewriteError", "RuleError", "SyntaxError", "Tree", "Unit", "contextual_keyword", "is_identifier",
     "is_raw_identifier", "keyword", "kind_name", "kind_of_name", "parse", "parse_expr", "parse_items",
     "parse_meta_item", "parse_pattern", "parse_statements", "parse_type", "rewrite",
 ]
@@ -115,6 +115,15 @@ class Match(typing.NamedTuple):
     rule: int
     start: int
     end: int
+
+
+class Unit(typing.NamedTuple):
+    """A character or an escape of a string literal: the bytes of the text where it starts and ends, and its value: a `str` of one character,
+    an `int` for a byte that is not one, or the EscapeError, which may be a warning."""
+
+    start: int
+    end: int
+    value: typing.Union[str, int, EscapeError]
 
 
 class LineCol(typing.NamedTuple):
@@ -225,6 +234,22 @@ def _string_value(call, data):
     value, count = ctypes.create_string_buffer(max(len(data), 1)), ctypes.c_uint32()
     _valued(call(data, len(data), value, len(data), ctypes.byref(count)))
     return value.raw[: count.value]
+
+
+def _units_of(data, at):
+    """The units of a string literal with this text, which starts at an offset."""
+    # There are at most as many as bytes.
+    units, count = (_raw.UnitRow * len(data))(), ctypes.c_uint32()
+    while not _had_room(_library.ras_c_char_ranges(data, len(data), units, len(units), ctypes.byref(count))):
+        units = (_raw.UnitRow * count.value)()
+    return [Unit(at + it.start, at + it.end, _SORTS[it.sort](it.value)) for it in units[: count.value]]
+
+
+_SORTS = {
+    _raw.UNIT_CHAR: chr,
+    _raw.UNIT_BYTE: int,
+    _raw.UNIT_FAULT: lambda status: EscapeError(*_raw.FAULTS[status - _raw.FAULT]),
+}
 
 
 def _sign_value(call, data):
@@ -675,6 +700,18 @@ class Element:
         """
         value_of = _VALUES.get(self.kind) if self.is_token else None
         return value_of and value_of(self.tree.data[self.start : self.end])
+
+    def units(self):
+        """The characters and escapes of a STRING, BYTE_STRING or C_STRING, each a `Unit` with its range in the text of the tree, its value or
+        what is wrong with it; none of any other element. In a raw one each character is a unit. A backslash at the end of a line is none,
+        but a warning about it is one.
+
+        >>> string = next(parse('const A: T = b"a\\\\xff\\\\q";').find("BYTE_STRING"))
+        >>> [(string.tree.text[it.start : it.end], getattr(it.value, "name", it.value)) for it in string.units()]
+        [('a', 'a'), ('\\\\xff', 255), ('\\\\q', 'InvalidEscape')]
+        """
+        has_units = self.is_token and self.kind in ("STRING", "BYTE_STRING", "C_STRING")
+        return _units_of(self.tree.data[self.start : self.end], self.start) if has_units else []
 
     def needs_parens(self, text):
         """Whether an expression with this text needs parentheses in place of this one, in a tree of a file, by rust-analyzer's test. The place

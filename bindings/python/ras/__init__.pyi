@@ -3,7 +3,7 @@ from collections.abc import Generator, Iterable, Iterator
 from typing import Literal, NamedTuple, NoReturn
 
 __all__ = [
-    "Element", "EscapeError", "LineCol", "Live", "Match", "ParseError", "RewriteError", "RuleError", "SyntaxError", "Tree", "contextual_keyword", "is_identifier",
+    "Element", "EscapeError", "LineCol", "Live", "Match", "ParseError", "RewriteError", "RuleError", "SyntaxError", "Tree", "Unit", "contextual_keyword", "is_identifier",
     "is_raw_identifier", "keyword", "kind_name", "kind_of_name", "parse", "parse_expr", "parse_items",
     "parse_meta_item", "parse_pattern", "parse_statements", "parse_type", "rewrite",
 ]
@@ -30,6 +30,11 @@ class RuleError(ValueError):
     def __init__(self, message: str, offset: int) -> None: ...
 
 class RewriteError(Exception): ...
+
+class Unit(NamedTuple):
+    start: int
+    end: int
+    value: str | int | EscapeError
 
 class LineCol(NamedTuple):
     line: int
@@ -105,6 +110,7 @@ class Element:
     def text(self) -> str: ...
     @property
     def value(self) -> str | bytes | int | None: ...
+    def units(self) -> list[Unit]: ...
     def needs_parens(self, text: str | bytes) -> bool: ...
     @property
     def parent(self) -> Element | None: ...

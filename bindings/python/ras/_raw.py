@@ -89,6 +89,16 @@ NO_ENTRY = 11
 # No choice of errors has the number. Nothing was written.
 NO_CHOICE = 12
 
+# A unit that is a character: its value is the character's number.
+UNIT_CHAR = 0
+
+# A unit that is a byte from 80 (hexadecimal) on, as `\xff` of a byte string or a C string: its
+# value is the byte.
+UNIT_BYTE = 1
+
+# A unit that is wrong, or a warning: its value is the status of the fault, from [`FAULT`] on.
+UNIT_FAULT = 2
+
 # An integer without a digit. Nothing was written.
 NO_DIGIT = 8
 
@@ -103,7 +113,7 @@ TOO_LARGE = 10
 FAULT = 64
 
 # A number made of the kinds, constants, structs and calls of the library. Bindings that know another number were made for others.
-VERSION = 3409237994
+VERSION = 3782936847
 
 # What can be wrong with an escape or a character: the names and the messages, from the status FAULT on.
 FAULTS = [
@@ -232,6 +242,17 @@ class TreeRows(ctypes.Structure):
     ]
 
 
+class UnitRow(ctypes.Structure):
+    """One unit of a string literal: a character or an escape."""
+
+    _fields_ = [
+        ("start", ctypes.c_uint32),
+        ("end", ctypes.c_uint32),
+        ("sort", ctypes.c_uint32),
+        ("value", ctypes.c_uint32),
+    ]
+
+
 class Word(ctypes.Structure):
     """What a word is in an edition."""
 
@@ -289,6 +310,8 @@ def declare(library: ctypes.CDLL) -> ctypes.CDLL:
     library.ras_c_take_tree.restype = ctypes.c_uint32
     library.ras_c_free_tree.argtypes = [ctypes.c_void_p]
     library.ras_c_free_tree.restype = None
+    library.ras_c_char_ranges.argtypes = [ctypes.c_void_p, ctypes.c_size_t, ctypes.c_void_p, ctypes.c_size_t, ctypes.c_void_p]
+    library.ras_c_char_ranges.restype = ctypes.c_uint32
     library.ras_c_string_value.argtypes = [ctypes.c_void_p, ctypes.c_size_t, ctypes.c_void_p, ctypes.c_size_t, ctypes.c_void_p]
     library.ras_c_string_value.restype = ctypes.c_uint32
     library.ras_c_byte_string_value.argtypes = [ctypes.c_void_p, ctypes.c_size_t, ctypes.c_void_p, ctypes.c_size_t, ctypes.c_void_p]

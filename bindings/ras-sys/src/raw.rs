@@ -88,6 +88,16 @@ pub const NO_ENTRY: u32 = 11;
 /// No choice of errors has the number. Nothing was written.
 pub const NO_CHOICE: u32 = 12;
 
+/// A unit that is a character: its value is the character's number.
+pub const UNIT_CHAR: u32 = 0;
+
+/// A unit that is a byte from 80 (hexadecimal) on, as `\xff` of a byte string or a C string: its
+/// value is the byte.
+pub const UNIT_BYTE: u32 = 1;
+
+/// A unit that is wrong, or a warning: its value is the status of the fault, from [`FAULT`] on.
+pub const UNIT_FAULT: u32 = 2;
+
 /// An integer without a digit. Nothing was written.
 pub const NO_DIGIT: u32 = 8;
 
@@ -102,7 +112,7 @@ pub const TOO_LARGE: u32 = 10;
 pub const FAULT: u32 = 64;
 
 /// A number made of the kinds, constants, structs and calls of the library. Bindings that know another number were made for others.
-pub const VERSION: u32 = 3409237994;
+pub const VERSION: u32 = 3782936847;
 
 /// One node or token, in 16 bytes. Rows are numbered from 0 in preorder.
 #[repr(C)]
@@ -229,6 +239,20 @@ pub struct TreeRows {
     pub text_len: usize,
     /// What owns the memory. It is private to the library.
     pub owner: TreeOwner,
+}
+
+/// One unit of a string literal: a character or an escape.
+#[repr(C)]
+#[derive(Clone, Copy, Debug, PartialEq, Eq)]
+pub struct UnitRow {
+    /// The byte of the literal's text where it starts.
+    pub start: u32,
+    /// The byte where it ends.
+    pub end: u32,
+    /// What it is: [`UNIT_CHAR`], [`UNIT_BYTE`] or [`UNIT_FAULT`].
+    pub sort: u32,
+    /// The number of the character, the byte, or the status of the fault.
+    pub value: u32,
 }
 
 /// What a word is in an edition.
@@ -589,6 +613,24 @@ unsafe extern "C" {
     pub fn ras_c_free_tree(
         tree: *mut TreeRows,
     );
+
+    /// Writes the units of a string, a byte string or a C string with this text, quotes and prefix with
+    /// it, to the front of `units`: each character and each escape with its range in the text, and its
+    /// character, byte or fault. Of `"a\n"` these are `a` at 1..2 and a line feed at 2..4.
+    ///
+    /// A text that begins with `b` is a byte string, one with `c` a C string, any other a string. Of a
+    /// raw one each character is a unit. A backslash before a line feed is no unit, with the blanks
+    /// after it, but each warning about these is one. A text without two quotes has no units.
+    ///
+    /// Returns [`OK`], [`NOT_UTF8`], [`TOO_LONG`], [`NO_MEMORY`] or [`NO_ROOM`]. It takes time linear
+    /// in the text, and there are at most as many units as bytes.
+    pub fn ras_c_char_ranges(
+        text: *const u8,
+        text_len: usize,
+        units: *mut UnitRow,
+        units_len: usize,
+        count: *mut u32,
+    ) -> u32;
 
     /// Writes the value of a string with this text, quotes and prefix with it, to the front of `value`,
     /// and its length to `count`: of `"a\n"` the letter and a line feed.

@@ -2,6 +2,8 @@
 use ras::ast::{self, AstToken};
 use ras::unescape::{MixedUnit, unescape_byte, unescape_byte_str, unescape_c_str, unescape_char, unescape_str};
 use ras::{EscapeError, SyntaxKind, SyntaxToken, SyntaxTreeBuilder};
+use ras_sys::{FAULT, OK, UNIT_BYTE, UNIT_CHAR, UNIT_FAULT, UnitRow, ras_c_char_ranges};
+use std::ops::Range;
 
 const SIGNS: [&str; 20] = ["a", "é", "\\", "n", "x", "4", "f", "u", "{", "}", "_", "\n", " ", "\t", "\r", "0", "\"", "'", "\u{a0}", "8"];
 
@@ -63,18 +65,57 @@ fn compare(content: &str) {
     assert_eq!(sign.value(), unescape_byte(content), "{content:?}");
 }
 
+// The units of a literal with this text, by the library.
+fn library_units(text: &str) -> Vec<UnitRow> {
+    let (mut rows, mut count) = (Vec::with_capacity(text.len()), 0);
+    // SAFETY: each pointer is to as many elements as is said, and no two buffers overlap.
+    let status = unsafe { ras_c_char_ranges(text.as_ptr(), text.len(), rows.as_mut_ptr(), rows.capacity(), &mut count) };
+    assert_eq!(status, OK, "{text:?}");
+    // SAFETY: the library wrote so many.
+    unsafe { rows.set_len(count as usize) };
+    rows
+}
+
+// A unit of a content that starts at this byte of a literal, as the library has it.
+fn row(start: usize, range: Range<usize>, unit: Result<MixedUnit, EscapeError>) -> UnitRow {
+    let (sort, value) = match unit {
+        Ok(MixedUnit::Char(sign)) => (UNIT_CHAR, sign as u32),
+        Ok(MixedUnit::HighByte(byte)) => (UNIT_BYTE, byte.into()),
+        Err(fault) => (UNIT_FAULT, FAULT + fault as u32),
+    };
+    UnitRow { start: (start + range.start) as u32, end: (start + range.end) as u32, sort, value }
+}
+
+fn of_byte(byte: u8) -> MixedUnit {
+    if byte.is_ascii() { MixedUnit::Char(byte.into()) } else { MixedUnit::HighByte(byte) }
+}
+
+fn compare_rows(content: &str) {
+    let (mut string, mut bytes, mut c_string) = (Vec::new(), Vec::new(), Vec::new());
+    unescape_str(content, |range, unit| string.push(row(1, range, unit.map(MixedUnit::Char))));
+    unescape_byte_str(content, |range, unit| bytes.push(row(2, range, unit.map(of_byte))));
+    unescape_c_str(content, |range, unit| c_string.push(row(2, range, unit)));
+    for (prefix, rows) in [("", string), ("b", bytes), ("c", c_string)] {
+        assert_eq!(library_units(&format!("{prefix}\"{content}\"")), rows, "{prefix} {content:?}");
+        let raw = content.char_indices().map(|(at, sign)| row(prefix.len() + 2, at..at + sign.len_utf8(), Ok(MixedUnit::Char(sign))));
+        assert_eq!(library_units(&format!("{prefix}r\"{content}\"")), raw.collect::<Vec<_>>(), "{prefix}r {content:?}");
+    }
+}
+
+// All contents of at most three of the signs.
+fn short_contents() -> impl Iterator<Item = String> {
+    let signs = || SIGNS.into_iter().chain([""]);
+    signs().flat_map(move |first| signs().flat_map(move |second| signs().map(move |third| format!("{first}{second}{third}"))))
+}
+
 #[test]
 fn short_contents_have_the_library_s_values() {
-    compare("");
-    for first in SIGNS {
-        for second in SIGNS {
-            compare(&format!("{first}{second}"));
-            for third in SIGNS {
-                compare(&format!("{first}{second}{third}"));
-            }
-        }
-        compare(first);
-    }
+    short_contents().for_each(|it| compare(&it));
+}
+
+#[test]
+fn short_contents_have_the_library_s_units() {
+    short_contents().for_each(|it| compare_rows(&it));
 }
 
 #[test]

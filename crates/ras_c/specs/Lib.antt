@@ -4,6 +4,7 @@ pub mod Kept
 pub mod Live
 pub mod Read
 pub mod Tokens
+pub mod Units
 pub mod Parens
 pub mod Place
 pub mod Values

@@ -26,6 +26,7 @@ mod root;
 mod status;
 mod tokens;
 mod tree;
+mod units;
 mod values;
 mod version;
 mod violations;

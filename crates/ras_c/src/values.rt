@@ -56,7 +56,7 @@ fn fault_number(fault: EscapeError) -> u32
     }
 }
 
-fn fault_status(fault: EscapeError) -> u32
+pub(crate) fn fault_status(fault: EscapeError) -> u32
     ensures value { result ≡ fault_status fault }
     ensures large { 64 ≤ result }
 {
