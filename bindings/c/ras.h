@@ -83,6 +83,18 @@ void rattle_dealloc(void *at);
 /* A number that no kind has. */
 #define RAS_NO_KIND 4294967295u
 
+/* Columns are counted in bytes, the units of UTF-8. */
+#define RAS_ENCODING_UTF8 0u
+
+/* Columns are counted in units of UTF-16, as editors count: two for a character past U+FFFF. */
+#define RAS_ENCODING_UTF16 1u
+
+/* Columns are counted in characters, the units of UTF-32. */
+#define RAS_ENCODING_UTF32 2u
+
+/* No encoding has the number. Nothing was written. */
+#define RAS_NO_ENCODING 18u
+
 /* The text in place of an expression is not one expression. Nothing was written. */
 #define RAS_NO_EXPR 17u
 
@@ -119,7 +131,10 @@ void rattle_dealloc(void *at);
 /* The edition is not 2015, 2018, 2021 or 2024. Nothing was written. */
 #define RAS_NO_EDITION 5u
 
-/* The text has no such range, or its tree no such node. Nothing was written. */
+/*
+ * The text has no such range, or its tree no such node; or an element of a list is no offset or
+ * place of the text. Nothing was written, but for the number of that element.
+ */
 #define RAS_NO_PLACE 6u
 
 /* The handle holds no parse. Nothing was written. */
@@ -159,7 +174,7 @@ void rattle_dealloc(void *at);
 #define RAS_FAULT 64u
 
 /* A number made of the kinds, constants, structs and calls of the library. Bindings that know another number were made for others. */
-#define RAS_VERSION 3782936847u
+#define RAS_VERSION 43401942u
 
 /* The statuses of a wrong escape or character. */
 enum ras_fault {
@@ -562,6 +577,14 @@ typedef struct {
     void *at;
 } ras_handle;
 
+/* A place in a text, by its line and its column, both counted from 0. */
+typedef struct {
+    /* How many line feeds are before the place. */
+    uint32_t line;
+    /* How many units are between the last of them, or the text's start, and the place. */
+    uint32_t col;
+} ras_line_col;
+
 /* The memory of a tree that was handed over, or none. Its fields are private to the library. */
 typedef struct {
     /* Whether there is a tree. */
@@ -716,6 +739,71 @@ size_t ras_c_kind_name(
 uint32_t ras_c_kind_of_name(
     const uint8_t *name,
     size_t name_len);
+
+/*
+ * Writes where the lines of a text start to the front of starts, in bytes: 0, and the byte after
+ * each line feed. Of a\nb these are 0 and 2.
+ *
+ * With them a program finds the line of any byte by a binary search, and gives that line alone to
+ * ras_c_line_cols or ras_c_offsets, as a text of one line.
+ *
+ * Returns RAS_OK, RAS_NOT_UTF8, RAS_TOO_LONG, RAS_NO_MEMORY or RAS_NO_ROOM. It takes time linear
+ * in the text, which has one line more than line feeds.
+ */
+uint32_t ras_c_line_starts(
+    const uint8_t *text,
+    size_t text_len,
+    uint32_t *starts,
+    size_t starts_len,
+    uint32_t *count);
+
+/*
+ * Writes the lines and columns of offsets of a text to the front of places, one for each in the
+ * same order, and their number to count. The columns are in an encoding, such as
+ * RAS_ENCODING_UTF16: byte 5 of a text with two letters of two bytes before it in its first line
+ * is line 0 and column 5 in UTF-8, and column 3 in UTF-16.
+ *
+ * It takes a list, so that the text is read once for all: in time linear in the text, and for
+ * each offset in the logarithm of the number of lines and, but in UTF-8, in the bytes from the
+ * offset before, if that is in the same line and not behind, or else from the line's start. To
+ * convert offsets of a text one at a time, keep its ras_c_line_starts and give a line alone.
+ *
+ * Returns RAS_OK, RAS_NOT_UTF8, RAS_TOO_LONG, RAS_NO_MEMORY, RAS_NO_ROOM, RAS_NO_ENCODING, or
+ * RAS_NO_PLACE if an offset is past the end of the text or inside a character: then count is how
+ * many offsets are before the first such one.
+ */
+uint32_t ras_c_line_cols(
+    const uint8_t *text,
+    size_t text_len,
+    uint32_t encoding,
+    const uint32_t *offsets,
+    size_t offsets_len,
+    ras_line_col *places,
+    size_t places_len,
+    uint32_t *count);
+
+/*
+ * Writes the offsets of places of a text to the front of offsets, in bytes, one for each in the
+ * same order, and their number to count. The columns are in an encoding, such as
+ * RAS_ENCODING_UTF16. A line feed is the last character of its line. It takes back what
+ * ras_c_line_cols gives.
+ *
+ * It takes a list, so that the text is read once for all: in time linear in the text, and for
+ * each place, but in UTF-8, in its column.
+ *
+ * Returns RAS_OK, RAS_NOT_UTF8, RAS_TOO_LONG, RAS_NO_MEMORY, RAS_NO_ROOM, RAS_NO_ENCODING, or
+ * RAS_NO_PLACE if the text has no such line, the line no such column, or the column is inside a
+ * character: then count is how many places are before the first such one.
+ */
+uint32_t ras_c_offsets(
+    const uint8_t *text,
+    size_t text_len,
+    uint32_t encoding,
+    const ras_line_col *places,
+    size_t places_len,
+    uint32_t *offsets,
+    size_t offsets_len,
+    uint32_t *count);
 
 /*
  * Parses a text as a Rust file of an edition, such as 2024, and puts the parse into a handle. A

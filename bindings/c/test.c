@@ -329,8 +329,8 @@ static void has_units(const char *text, const ras_unit_row *units, uint32_t numb
     ras_unit_row found[8];
     uint32_t count = 9, needed = 9;
     memset(found, 7, sizeof found);
-    owes(ras_c_char_ranges(BYTES(text), found, 8, &count) == RAS_OK && count == number && !memcmp(found, units, number * sizeof *units)
-        && found[number].start == 0x07070707u, text);
+    owes(ras_c_char_ranges(BYTES(text), found, 8, &count) == RAS_OK && count == number
+        && (!number || !memcmp(found, units, number * sizeof *units)) && found[number].start == 0x07070707u, text);
     owes(ras_c_char_ranges(BYTES(text), NULL, 0, &needed) == (number ? RAS_NO_ROOM : RAS_OK) && needed == number, text);
 }
 
@@ -349,6 +349,44 @@ static void units(void) {
     uint32_t count = 9;
     owes(ras_c_char_ranges(BYTES("\"\xff\""), &none, 1, &count) == RAS_NOT_UTF8 && count == 9 && none.start == 7, "bad UTF-8 has no units");
     owes(ras_c_char_ranges(BYTES("\"ab\""), &none, 1, &count) == RAS_NO_ROOM && count == 2 && none.start == 7, "a refused call writes no unit");
+}
+
+static bool is_at(ras_line_col place, uint32_t line, uint32_t col) {
+    return place.line == line && place.col == col;
+}
+
+/* The places of offsets in three encodings, and back. */
+static void lines(void) {
+    static const char text[] = "a\xc3\xa9\xf0\x9d\x84\x9e" "b\n\nc";
+    static const uint32_t offsets[] = {0, 1, 3, 7, 8, 9, 10, 11}, columns[3][8] = {{0, 1, 3, 7, 8, 0, 0, 1}, {0, 1, 2, 4, 5, 0, 0, 1}, {0, 1, 2, 3, 4, 0, 0, 1}};
+    uint32_t starts[4] = {7, 7, 7, 7}, found[9], count = 9;
+    owes(ras_c_line_starts(BYTES(text), starts, 2, &count) == RAS_NO_ROOM && count == 3 && starts[0] == 7, "two lines are too little room");
+    owes(ras_c_line_starts(BYTES(text), starts, 4, &count) == RAS_OK && count == 3 && starts[0] == 0 && starts[1] == 9 && starts[2] == 10 && starts[3] == 7,
+        "a line starts after each line feed");
+    owes(ras_c_line_starts(NULL, 0, starts, 1, &count) == RAS_OK && count == 1 && starts[0] == 0, "no text has a line");
+    owes(ras_c_line_starts(BYTES("\xff"), starts, 4, &count) == RAS_NOT_UTF8 && count == 1, "bad UTF-8 has none");
+    ras_line_col places[9];
+    for (uint32_t encoding = RAS_ENCODING_UTF8; encoding <= RAS_ENCODING_UTF32; encoding++) {
+        memset(places, 7, sizeof places), memset(found, 7, sizeof found);
+        owes(ras_c_line_cols(BYTES(text), encoding, offsets, 8, places, 9, &count) == RAS_OK && count == 8 && places[8].line == 0x07070707u, "offsets have places");
+        for (int n = 0; n < 8; n++) owes(is_at(places[n], n < 5 ? 0 : n - 4 - (n == 7), columns[encoding][n]), "each has its own");
+        owes(ras_c_offsets(BYTES(text), encoding, places, 8, found, 9, &count) == RAS_OK && count == 8 && !memcmp(found, offsets, sizeof offsets)
+            && found[8] == 0x07070707u, "places have offsets");
+        owes(ras_c_line_cols(BYTES(text), encoding, (uint32_t[]){11, 0, 4}, 3, places, 9, &count) == RAS_NO_PLACE && count == 2, "no place is inside a character");
+        owes(ras_c_line_cols(BYTES(text), encoding, (uint32_t[]){12}, 1, places, 9, &count) == RAS_NO_PLACE && count == 0, "nor past the end");
+        ras_line_col none[] = {{0, 0}, {1, 1}, {3, 0}, {2, 2}, {UINT32_MAX, UINT32_MAX}};
+        owes(ras_c_offsets(BYTES(text), encoding, none, 5, found, 9, &count) == RAS_NO_PLACE && count == 1, "a line has no column behind its line feed");
+        for (int n = 2; n < 5; n++)
+            owes(ras_c_offsets(BYTES(text), encoding, none + n, 1, found, 9, &count) == RAS_NO_PLACE && count == 0, "there is no such line or column");
+        count = 9;
+        owes(ras_c_line_cols(BYTES(text), encoding, offsets, 8, places, 7, &count) == RAS_NO_ROOM && count == 8 && places[0].line == 0, "seven are too few");
+        owes(ras_c_line_cols(BYTES("\xff"), encoding, offsets, 1, places, 9, &count) == RAS_NOT_UTF8
+            && ras_c_offsets(BYTES("\xff"), encoding, none, 1, found, 9, &count) == RAS_NOT_UTF8 && count == 8, "bad UTF-8 has no places");
+    }
+    owes(ras_c_offsets(BYTES(text), RAS_ENCODING_UTF16, (ras_line_col[]){{0, 3}}, 1, found, 9, &count) == RAS_NO_PLACE, "half a character has no offset");
+    owes(ras_c_offsets(BYTES(text), RAS_ENCODING_UTF8, (ras_line_col[]){{0, 2}}, 1, found, 9, &count) == RAS_NO_PLACE, "nor has a part of its bytes");
+    owes(ras_c_line_cols(BYTES("\xff"), 3, offsets, 1, places, 9, &count) == RAS_NO_ENCODING
+        && ras_c_offsets(BYTES("\xff"), UINT32_MAX, places, 1, found, 9, &count) == RAS_NO_ENCODING, "no encoding has the number");
 }
 
 static uint32_t rows_of(ras_handle *handle, ras_flat_row *out, size_t room, ras_counts *counts) {
@@ -681,6 +719,17 @@ static void refuses(void) {
     count = 9;
     status = ras_c_char_ranges(BYTES("\"\\n\""), &unit, 1, &count);
     owes(status == RAS_OK || (status == RAS_NO_MEMORY && count == 9 && unit.start == 7), "char_ranges is done or refused");
+    uint32_t starts[3] = {7};
+    ras_line_col place = {7, 7};
+    count = 9;
+    status = ras_c_line_starts(BYTES("\n\n"), starts, 3, &count);
+    owes(status == RAS_OK || (status == RAS_NO_MEMORY && count == 9 && starts[0] == 7), "line_starts is done or refused");
+    count = 9;
+    status = ras_c_line_cols(BYTES("\n\xc3\xa9"), RAS_ENCODING_UTF16, (uint32_t[]){3}, 1, &place, 1, &count);
+    owes(status == RAS_OK ? is_at(place, 1, 1) : status == RAS_NO_MEMORY && count == 9 && place.line == 7, "line_cols is done or refused");
+    count = 9;
+    status = ras_c_offsets(BYTES("\n\xc3\xa9"), RAS_ENCODING_UTF16, (ras_line_col[]){{1, 1}}, 1, starts, 1, &count);
+    owes(status == RAS_OK ? starts[0] == 3 : status == RAS_NO_MEMORY && count == 9, "offsets is done or refused");
     count = 9;
     status = ras_c_read_as(RAS_ENTRY_FILE, RAS_PARSE_ERRORS, BYTES(TEXT), 2024, rows, ROWS, errors, ERRORS, messages, MESSAGES, &counts);
     owes(status == RAS_OK || status == RAS_NO_MEMORY, "read_as is done or refused");
@@ -709,6 +758,7 @@ int main(void) {
     places();
     values();
     units();
+    lines();
     edits();
     tells_what_is_new();
     tells_violations_of_a_part();

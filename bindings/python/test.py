@@ -262,7 +262,17 @@ class Trees(unittest.TestCase):
                 place = tree.line_col(offset, encoding)
                 self.assertEqual(place, (before.count("\n"), width(before[before.rfind("\n") + 1 :])))
                 self.assertEqual(tree.offset(*place, encoding), offset)
-        self.assertEqual(ras.parse("").line_col(0), (0, 0))
+            offsets = [len(text[:n].encode()) for n in range(len(text) + 1)]
+            places = tree.line_cols(offsets[::-1], encoding)
+            self.assertEqual(places, [tree.line_col(it, encoding) for it in offsets[::-1]])
+            self.assertEqual(tree.offsets(iter(places), encoding), offsets[::-1])
+        self.assertEqual((ras.parse("").line_col(0), tree.line_cols([]), tree.offsets([])), ((0, 0), [], []))
+        self.assertRaises(ValueError, tree.line_cols, [0, 4])
+        self.assertRaises(ValueError, tree.line_cols, [0, 1 << 32])
+        self.assertRaises(ValueError, tree.offsets, [(0, 0), (1 << 32, 0)])
+        self.assertRaises(ValueError, tree.offsets, [(0, 0), (4, 0)])
+        lines = ras.parse("a\n" * 1000)
+        self.assertEqual((lines.line_col(1999), lines.line_col(2000), lines.offset(1000, 0)), ((999, 1), (1000, 0), 2000))
         for refused in (-1, len(tree.data) + 1, 4, 12):
             self.assertRaises(ValueError, tree.line_col, refused)
         for line, col, encoding in ((-1, 0, "utf-8"), (4, 0, "utf-8"), (0, 3, "utf-8"), (1, 1, "utf-8"), (1, 1, "utf-16"), (1, 5, "utf-16"), (0, 0, "latin-1")):

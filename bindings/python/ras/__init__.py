@@ -15,7 +15,6 @@ import ctypes
 import functools
 import mmap
 import os
-import re
 import threading
 import typing
 import weakref
@@ -133,14 +132,46 @@ class LineCol(typing.NamedTuple):
     col: int
 
 
-# The bytes of a unit of an encoding.
-_UNITS = {"utf-8": 1, "utf-16": 2, "utf-32": 4}
+_ENCODINGS = {"utf-8": _raw.ENCODING_UTF8, "utf-16": _raw.ENCODING_UTF16, "utf-32": _raw.ENCODING_UTF32}
 
 
-def _encoding_of(encoding):
-    if encoding not in _UNITS:
-        raise ValueError(f"an encoding of columns is one of {', '.join(map(repr, _UNITS))}, not {encoding!r}")
-    return encoding
+def _first_unanswered(call, data, encoding, given, out):
+    """Converts a list of offsets or places of a text: the number of the first that the text has not, or None."""
+    if encoding not in _ENCODINGS:
+        raise ValueError(f"an encoding of columns is one of {', '.join(map(repr, _ENCODINGS))}, not {encoding!r}")
+    count = ctypes.c_uint32()
+    status = call(data, len(data), _ENCODINGS[encoding], given, len(given), out, len(out), ctypes.byref(count))
+    if status == _raw.NO_PLACE:
+        return count.value
+    _had_room(status)
+    return None
+
+
+def _line_cols(data, at, offsets, encoding):
+    """The places of offsets of a text that starts at another offset of the whole text."""
+    for it in offsets:
+        if not 0 <= it <= len(data):
+            raise ValueError(f"{at + it} is no offset of the text")
+    given, places = (ctypes.c_uint32 * len(offsets))(*offsets), (_raw.LineCol * len(offsets))()
+    first = _first_unanswered(_library.ras_c_line_cols, data, encoding, given, places)
+    if first is not None:
+        raise ValueError(f"{at + offsets[first]} is inside a character")
+    return [LineCol(it.line, it.col) for it in places]
+
+
+def _offsets_of(data, at, places, encoding):
+    """The offsets of places of a text whose first line has a number in the whole text."""
+    given, offsets = (_raw.LineCol * len(places))(), (ctypes.c_uint32 * len(places))()
+    for n, (line, col) in enumerate(places):
+        # ctypes would cut a larger number to 32 bits.
+        if not (0 <= line < 1 << 32 and 0 <= col < 1 << 32):
+            raise ValueError(f"the text has no line {at + line} with a column {col}")
+        given[n] = line, col
+    first = _first_unanswered(_library.ras_c_offsets, data, encoding, given, offsets)
+    if first is not None:
+        line, col = places[first]
+        raise ValueError(f"the text has no line {at + line} with a column {col}, or it is inside a character")
+    return list(offsets)
 
 
 _NOT_REPLACED = {
@@ -476,28 +507,39 @@ class Tree:
 
     @functools.cached_property
     def _lines(self):
-        """Where each line starts, and where the text ends."""
-        return [0, *(it.end() for it in re.finditer(b"\n", self.data)), len(self.data) + 1]
+        """Where each line starts."""
+        starts, count = (ctypes.c_uint32 * (len(self.data) // 24 + 16))(), ctypes.c_uint32()
+        while not _had_room(_library.ras_c_line_starts(self.data, len(self.data), starts, len(starts), ctypes.byref(count))):
+            starts = (ctypes.c_uint32 * count.value)()
+        return starts[: count.value]
+
+    def _line(self, line):
+        """A line with its line feed."""
+        return self.data[self._lines[line] : (self._lines[line + 1] if line + 1 < len(self._lines) else len(self.data))]
 
     def line_col(self, offset, encoding="utf-8"):
         """The line and the column of an offset in bytes, both from 0. The column is in units of an encoding: in bytes for "utf-8", in what
         editors count for "utf-16", in characters for "utf-32". ValueError if the offset is not in the text, or is inside a character.
 
-        The first call takes time linear in the text, and each one time linear in the column.
+        The first call takes time linear in the text, and each one time linear in the line.
 
         >>> tree = parse("// \\U0001f980\\nfn f() {}")
         >>> tree.line_col(tree.root.child("FN").end), tree.line_col(7), tree.line_col(7, "utf-16")
         (LineCol(line=1, col=9), LineCol(line=0, col=7), LineCol(line=0, col=5))
         """
-        units = _UNITS[_encoding_of(encoding)]
         if not 0 <= offset <= len(self.data):
             raise ValueError(f"{offset} is no offset of the text, which has {len(self.data)} bytes")
         line = bisect.bisect_right(self._lines, offset) - 1
-        try:
-            before = self.data[self._lines[line] : offset].decode()
-        except UnicodeDecodeError:
-            raise ValueError(f"{offset} is inside a character") from None
-        return LineCol(line, len(before.encode(encoding + "-le" * (units > 1))) // units)
+        start = self._lines[line]
+        return LineCol(line, _line_cols(self._line(line), start, [offset - start], encoding)[0].col)
+
+    def line_cols(self, offsets, encoding="utf-8"):
+        """The lines and columns of some offsets, as `line_col` gives each. It looks through the text once, which is sooner for many.
+
+        >>> parse("// \\U0001f980\\nfn f() {}").line_cols([0, 7, 11], "utf-16")
+        [LineCol(line=0, col=0), LineCol(line=0, col=5), LineCol(line=1, col=3)]
+        """
+        return _line_cols(self.data, 0, list(offsets), encoding)
 
     def offset(self, line, col, encoding="utf-8"):
         """The offset in bytes of a line and a column, as `line_col` gives them. A line feed is the last character of its line. ValueError if
@@ -507,18 +549,17 @@ class Tree:
         >>> tree.offset(1, 3), tree.offset(0, 5, "utf-16")
         (11, 7)
         """
-        units = _UNITS[_encoding_of(encoding)]
-        if not 0 <= line < len(self._lines) - 1:
-            raise ValueError(f"the text has no line {line}: it has {len(self._lines) - 1}, counted from 0")
-        start, end = self._lines[line], self._lines[line + 1] - 1
-        whole = encoding + "-le" * (units > 1)
-        wide = self.data[start:end].decode().encode(whole)
-        if not 0 <= col <= len(wide) // units:
-            raise ValueError(f"line {line} has no column {col}")
-        try:
-            return start + len(wide[: col * units].decode(whole).encode())
-        except UnicodeDecodeError:
-            raise ValueError(f"column {col} of line {line} is inside a character") from None
+        if not 0 <= line < len(self._lines):
+            raise ValueError(f"the text has no line {line}: it has {len(self._lines)}, counted from 0")
+        return self._lines[line] + _offsets_of(self._line(line), line, [(0, col)], encoding)[0]
+
+    def offsets(self, places, encoding="utf-8"):
+        """The offsets of some places, each a line and a column, as `offset` gives each. It looks through the text once.
+
+        >>> parse("// \\U0001f980\\nfn f() {}").offsets([(1, 3), (0, 5)], "utf-16")
+        [11, 7]
+        """
+        return _offsets_of(self.data, 0, list(places), encoding)
 
     def edit(self, edits):
         """The tree of the text in which each range of bytes is replaced: `edits` are tuples of a start, an end and a text, in any order.

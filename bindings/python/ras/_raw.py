@@ -43,6 +43,18 @@ ALL_ERRORS = 3
 # A number that no kind has.
 NO_KIND = 4294967295
 
+# Columns are counted in bytes, the units of UTF-8.
+ENCODING_UTF8 = 0
+
+# Columns are counted in units of UTF-16, as editors count: two for a character past U+FFFF.
+ENCODING_UTF16 = 1
+
+# Columns are counted in characters, the units of UTF-32.
+ENCODING_UTF32 = 2
+
+# No encoding has the number. Nothing was written.
+NO_ENCODING = 18
+
 # The text in place of an expression is not one expression. Nothing was written.
 NO_EXPR = 17
 
@@ -77,7 +89,8 @@ NO_ROOM = 4
 # The edition is not 2015, 2018, 2021 or 2024. Nothing was written.
 NO_EDITION = 5
 
-# The text has no such range, or its tree no such node. Nothing was written.
+# The text has no such range, or its tree no such node; or an element of a list is no offset or
+# place of the text. Nothing was written, but for the number of that element.
 NO_PLACE = 6
 
 # The handle holds no parse. Nothing was written.
@@ -113,7 +126,7 @@ TOO_LARGE = 10
 FAULT = 64
 
 # A number made of the kinds, constants, structs and calls of the library. Bindings that know another number were made for others.
-VERSION = 3782936847
+VERSION = 43401942
 
 # What can be wrong with an escape or a character: the names and the messages, from the status FAULT on.
 FAULTS = [
@@ -160,6 +173,15 @@ class Handle(ctypes.Structure):
     _fields_ = [
         ("full", ctypes.c_bool),
         ("at", ctypes.c_void_p),
+    ]
+
+
+class LineCol(ctypes.Structure):
+    """A place in a text, by its line and its column, both counted from 0."""
+
+    _fields_ = [
+        ("line", ctypes.c_uint32),
+        ("col", ctypes.c_uint32),
     ]
 
 
@@ -272,6 +294,12 @@ def declare(library: ctypes.CDLL) -> ctypes.CDLL:
     library.ras_c_kind_name.restype = ctypes.c_size_t
     library.ras_c_kind_of_name.argtypes = [ctypes.c_void_p, ctypes.c_size_t]
     library.ras_c_kind_of_name.restype = ctypes.c_uint32
+    library.ras_c_line_starts.argtypes = [ctypes.c_void_p, ctypes.c_size_t, ctypes.c_void_p, ctypes.c_size_t, ctypes.c_void_p]
+    library.ras_c_line_starts.restype = ctypes.c_uint32
+    library.ras_c_line_cols.argtypes = [ctypes.c_void_p, ctypes.c_size_t, ctypes.c_uint32, ctypes.c_void_p, ctypes.c_size_t, ctypes.c_void_p, ctypes.c_size_t, ctypes.c_void_p]
+    library.ras_c_line_cols.restype = ctypes.c_uint32
+    library.ras_c_offsets.argtypes = [ctypes.c_void_p, ctypes.c_size_t, ctypes.c_uint32, ctypes.c_void_p, ctypes.c_size_t, ctypes.c_void_p, ctypes.c_size_t, ctypes.c_void_p]
+    library.ras_c_offsets.restype = ctypes.c_uint32
     library.ras_c_parse.argtypes = [ctypes.c_void_p, ctypes.c_size_t, ctypes.c_uint32, ctypes.c_void_p]
     library.ras_c_parse.restype = ctypes.c_uint32
     library.ras_c_rows.argtypes = [ctypes.c_void_p, ctypes.c_void_p, ctypes.c_size_t, ctypes.c_void_p, ctypes.c_size_t, ctypes.c_void_p, ctypes.c_size_t, ctypes.c_void_p]

@@ -42,6 +42,18 @@ pub const ALL_ERRORS: u32 = 3;
 /// A number that no kind has.
 pub const NO_KIND: u32 = 4294967295;
 
+/// Columns are counted in bytes, the units of UTF-8.
+pub const ENCODING_UTF8: u32 = 0;
+
+/// Columns are counted in units of UTF-16, as editors count: two for a character past U+FFFF.
+pub const ENCODING_UTF16: u32 = 1;
+
+/// Columns are counted in characters, the units of UTF-32.
+pub const ENCODING_UTF32: u32 = 2;
+
+/// No encoding has the number. Nothing was written.
+pub const NO_ENCODING: u32 = 18;
+
 /// The text in place of an expression is not one expression. Nothing was written.
 pub const NO_EXPR: u32 = 17;
 
@@ -76,7 +88,8 @@ pub const NO_ROOM: u32 = 4;
 /// The edition is not 2015, 2018, 2021 or 2024. Nothing was written.
 pub const NO_EDITION: u32 = 5;
 
-/// The text has no such range, or its tree no such node. Nothing was written.
+/// The text has no such range, or its tree no such node; or an element of a list is no offset or
+/// place of the text. Nothing was written, but for the number of that element.
 pub const NO_PLACE: u32 = 6;
 
 /// The handle holds no parse. Nothing was written.
@@ -112,7 +125,7 @@ pub const TOO_LARGE: u32 = 10;
 pub const FAULT: u32 = 64;
 
 /// A number made of the kinds, constants, structs and calls of the library. Bindings that know another number were made for others.
-pub const VERSION: u32 = 3782936847;
+pub const VERSION: u32 = 43401942;
 
 /// One node or token, in 16 bytes. Rows are numbered from 0 in preorder.
 #[repr(C)]
@@ -139,6 +152,16 @@ pub struct Handle {
     pub full: bool,
     /// Where it is.
     pub at: *mut u8,
+}
+
+/// A place in a text, by its line and its column, both counted from 0.
+#[repr(C)]
+#[derive(Clone, Copy, Debug, PartialEq, Eq)]
+pub struct LineCol {
+    /// How many line feeds are before the place.
+    pub line: u32,
+    /// How many units are between the last of them, or the text's start, and the place.
+    pub col: u32,
 }
 
 /// The memory of a tree that was handed over, or none. Its fields are private to the library.
@@ -302,6 +325,68 @@ unsafe extern "C" {
     pub fn ras_c_kind_of_name(
         name: *const u8,
         name_len: usize,
+    ) -> u32;
+
+    /// Writes where the lines of a text start to the front of `starts`, in bytes: 0, and the byte after
+    /// each line feed. Of `a\nb` these are 0 and 2.
+    ///
+    /// With them a program finds the line of any byte by a binary search, and gives that line alone to
+    /// `ras_c_line_cols` or `ras_c_offsets`, as a text of one line.
+    ///
+    /// Returns [`OK`], [`NOT_UTF8`], [`TOO_LONG`], [`NO_MEMORY`] or [`NO_ROOM`]. It takes time linear
+    /// in the text, which has one line more than line feeds.
+    pub fn ras_c_line_starts(
+        text: *const u8,
+        text_len: usize,
+        starts: *mut u32,
+        starts_len: usize,
+        count: *mut u32,
+    ) -> u32;
+
+    /// Writes the lines and columns of offsets of a text to the front of `places`, one for each in the
+    /// same order, and their number to `count`. The columns are in an encoding, such as
+    /// [`ENCODING_UTF16`]: byte 5 of a text with two letters of two bytes before it in its first line
+    /// is line 0 and column 5 in UTF-8, and column 3 in UTF-16.
+    ///
+    /// It takes a list, so that the text is read once for all: in time linear in the text, and for
+    /// each offset in the logarithm of the number of lines and, but in UTF-8, in the bytes from the
+    /// offset before, if that is in the same line and not behind, or else from the line's start. To
+    /// convert offsets of a text one at a time, keep its `ras_c_line_starts` and give a line alone.
+    ///
+    /// Returns [`OK`], [`NOT_UTF8`], [`TOO_LONG`], [`NO_MEMORY`], [`NO_ROOM`], [`NO_ENCODING`], or
+    /// [`NO_PLACE`] if an offset is past the end of the text or inside a character: then `count` is how
+    /// many offsets are before the first such one.
+    pub fn ras_c_line_cols(
+        text: *const u8,
+        text_len: usize,
+        encoding: u32,
+        offsets: *const u32,
+        offsets_len: usize,
+        places: *mut LineCol,
+        places_len: usize,
+        count: *mut u32,
+    ) -> u32;
+
+    /// Writes the offsets of places of a text to the front of `offsets`, in bytes, one for each in the
+    /// same order, and their number to `count`. The columns are in an encoding, such as
+    /// [`ENCODING_UTF16`]. A line feed is the last character of its line. It takes back what
+    /// `ras_c_line_cols` gives.
+    ///
+    /// It takes a list, so that the text is read once for all: in time linear in the text, and for
+    /// each place, but in UTF-8, in its column.
+    ///
+    /// Returns [`OK`], [`NOT_UTF8`], [`TOO_LONG`], [`NO_MEMORY`], [`NO_ROOM`], [`NO_ENCODING`], or
+    /// [`NO_PLACE`] if the text has no such line, the line no such column, or the column is inside a
+    /// character: then `count` is how many places are before the first such one.
+    pub fn ras_c_offsets(
+        text: *const u8,
+        text_len: usize,
+        encoding: u32,
+        places: *const LineCol,
+        places_len: usize,
+        offsets: *mut u32,
+        offsets_len: usize,
+        count: *mut u32,
     ) -> u32;
 
     /// Parses a text as a Rust file of an edition, such as 2024, and puts the parse into a handle. A

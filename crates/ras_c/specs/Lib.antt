@@ -1,6 +1,7 @@
 pub mod Border
 pub mod Held
 pub mod Kept
+pub mod Lines
 pub mod Live
 pub mod Read
 pub mod Tokens

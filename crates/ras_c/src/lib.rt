@@ -13,6 +13,7 @@ mod handle;
 mod held;
 mod kept;
 mod kinds;
+mod lines;
 mod live;
 mod loose;
 mod owner;

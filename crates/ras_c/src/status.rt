@@ -16,7 +16,8 @@ pub const NO_MEMORY: u32 = 3;
 pub const NO_ROOM: u32 = 4;
 /// The edition is not 2015, 2018, 2021 or 2024. Nothing was written.
 pub const NO_EDITION: u32 = 5;
-/// The text has no such range, or its tree no such node. Nothing was written.
+/// The text has no such range, or its tree no such node; or an element of a list is no offset or
+/// place of the text. Nothing was written, but for the number of that element.
 pub const NO_PLACE: u32 = 6;
 /// The handle holds no parse. Nothing was written.
 pub const NO_PARSE: u32 = 7;
