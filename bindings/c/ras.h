@@ -80,6 +80,15 @@ void rattle_dealloc(void *at);
 /* All errors are told: those of the parse, and then the violations. */
 #define RAS_ALL_ERRORS 3u
 
+/* Two ranges of an edit overlap. Nothing was written. */
+#define RAS_OVERLAP 19u
+
+/*
+ * The lengths of the inserted texts do not cut their bytes into texts: there are more or fewer
+ * bytes, or a text would end inside a character. Nothing was written.
+ */
+#define RAS_NOT_CUT 20u
+
 /* A number that no kind has. */
 #define RAS_NO_KIND 4294967295u
 
@@ -174,7 +183,7 @@ void rattle_dealloc(void *at);
 #define RAS_FAULT 64u
 
 /* A number made of the kinds, constants, structs and calls of the library. Bindings that know another number were made for others. */
-#define RAS_VERSION 43401942u
+#define RAS_VERSION 1772290059u
 
 /* The statuses of a wrong escape or character. */
 enum ras_fault {
@@ -565,6 +574,19 @@ typedef struct {
 } ras_flat_row;
 
 /*
+ * One of several replacements of a text. Their inserted texts lie in a buffer, one behind the
+ * other.
+ */
+typedef struct {
+    /* The byte of the old text where what is replaced starts. */
+    uint32_t start;
+    /* The byte where it ends. */
+    uint32_t end;
+    /* The length of the inserted text in bytes. */
+    uint32_t insert;
+} ras_edit_row;
+
+/*
  * A parse that is kept between calls, or no parse. A handle of all zeros holds none.
  *
  * The fields are private to the library. Do not use a copy of a handle after a call that changed
@@ -708,6 +730,32 @@ typedef struct {
      */
     bool is_raw_identifier;
 } ras_word;
+
+/*
+ * Edits the text of a handle's parse at several places at once: all edits are made or, if they are
+ * refused, none. The ranges of edits are of the text as it is, in any order; texts that are
+ * inserted at one place stay in the order of the list. inserts has the inserted texts, one
+ * behind the other. The handle then holds the parse of the new text: the same tree and errors that
+ * ras_c_parse would make.
+ *
+ * In the edition that the parse is of, up to eight edits are made one after another, the last in
+ * the text first, and for each one token gets another text or one block is parsed again, if that
+ * is enough for all of them; else, and in another edition, the whole new text is parsed, once.
+ * Which parts were read again is not told: ras_c_edit_told tells it of one edit.
+ *
+ * Returns RAS_OK, RAS_NOT_UTF8, RAS_TOO_LONG, RAS_NO_MEMORY, RAS_NO_EDITION, RAS_NO_PARSE if the
+ * handle holds no parse, RAS_NOT_CUT if the lengths in edits do not cut inserts into texts,
+ * RAS_NO_PLACE if a range is backwards, not in the text or not on character boundaries, or
+ * RAS_OVERLAP if two ranges overlap; those that touch do not, nor two insertions at one place.
+ * Unless it is RAS_OK, the handle is not changed.
+ */
+uint32_t ras_c_edits(
+    ras_handle *handle,
+    uint32_t edition,
+    const ras_edit_row *edits,
+    size_t edits_len,
+    const uint8_t *inserts,
+    size_t inserts_len);
 
 /*
  * Writes a choice of the errors of a handle's parse, such as RAS_PARSE_ERRORS, and their messages,

@@ -435,6 +435,36 @@ static void edits(void) {
     owes(held == 0, "a handle is freed once");
 }
 
+static uint32_t edits_of(ras_handle *handle, const ras_edit_row *edits, size_t number, const char *inserts) {
+    return ras_c_edits(handle, 2024, edits, number, BYTES(inserts));
+}
+
+/* Several edits at once: all, or none. */
+static void edits_at_once(void) {
+    static const char text[] = "fn f(a: u8) { \xc3\xbc }", new[] = "fn f(b: u8) { b + 1 }";
+    const ras_edit_row both[] = {{14, 16, 5}, {5, 6, 1}}, lapping[] = {{3, 4, 0}, {0, 4, 0}}, touching[] = {{3, 4, 2}, {0, 3, 3}, {3, 3, 1}, {3, 3, 1}};
+    ras_handle live = {0};
+    owes(edits_of(&live, both, 2, "b + 1b") == RAS_NO_PARSE && held == 0, "an empty handle has no text");
+    owes(ras_c_parse(BYTES(text), 2024, &live) == RAS_OK, "a text is parsed");
+    owes(edits_of(&live, both, 2, "\xff") == RAS_NOT_UTF8 && ras_c_edits(&live, 2016, both, 2, BYTES("\xff")) == RAS_NO_EDITION, "refused texts are not put in");
+    owes(edits_of(&live, both, 2, "b + 1") == RAS_NOT_CUT && edits_of(&live, both, 2, "b + 1bc") == RAS_NOT_CUT && edits_of(&live, NULL, 0, "b") == RAS_NOT_CUT
+        && edits_of(&live, both, 2, "b +  \xc3\xa9") == RAS_NOT_CUT && edits_of(&live, &(ras_edit_row){0, 0, UINT32_MAX}, 1, "b") == RAS_NOT_CUT,
+        "lengths cut the texts");
+    owes(edits_of(&live, &(ras_edit_row){5, 4, 0}, 1, "") == RAS_NO_PLACE && edits_of(&live, &(ras_edit_row){0, 99, 0}, 1, "") == RAS_NO_PLACE
+        && edits_of(&live, &(ras_edit_row){15, 16, 0}, 1, "") == RAS_NO_PLACE, "no range is backwards, past the end or inside a character");
+    owes(edits_of(&live, lapping, 2, "") == RAS_OVERLAP && tells(&live, text), "two ranges do not overlap, and a refused edit leaves the handle");
+    owes(edits_of(&live, both, 2, "b + 1b") == RAS_OK && tells(&live, new), "both are made");
+    owes(edits_of(&live, touching, 4, "r#fn r#") == RAS_OK && tells(&live, "fn r#r#(b: u8) { b + 1 }"), "ranges may touch, and insertions keep their order");
+    owes(edits_of(&live, NULL, 0, "") == RAS_OK && tells(&live, "fn r#r#(b: u8) { b + 1 }"), "no edit changes nothing");
+    ras_edit_row many[12];
+    for (uint32_t n = 0; n < 12; n++) many[n] = (ras_edit_row){11 - n, 11 - n, 1};
+    owes(ras_c_parse(BYTES("fn f(){g(a)}"), 2024, &live) == RAS_OK && edits_of(&live, many, 12, "            ") == RAS_OK, "many are made");
+    owes(tells(&live, " f n   f ( ) { g ( a ) }"), "each at its place");
+    owes(ras_c_edits(&live, 2015, &(ras_edit_row){15, 16, 5}, 1, BYTES("async")) == RAS_OK, "another edition reads all anew");
+    ras_c_free(&live);
+    owes(held == 0, "a freed handle holds nothing");
+}
+
 static uint32_t rows_at(ras_handle *handle, uint32_t told, uint32_t start, uint32_t end, size_t room, ras_counts *counts) {
     return ras_c_rows_at(handle, told, start, end, rows, room, errors, ERRORS, messages, MESSAGES, counts);
 }
@@ -665,6 +695,16 @@ static void refuses_edits(void) {
         owes(tells(&live, text), "a handle holds what was done last");
         granted = left, asked = before;
     }
+    if (status == RAS_OK) {
+        const ras_edit_row both[] = {{9, 12, 1}, {27, 28, 3}};
+        status = edits_of(&live, both, 2, "g{3}");
+        owes(status == RAS_OK || status == RAS_NO_MEMORY, "edits are done or refused");
+        if (status == RAS_OK) text = "mod m;fn g() { let x = { {3} }; }";
+        long left = granted, before = asked;
+        granted = -1;
+        owes(tells(&live, text), "all of them, or none");
+        granted = left, asked = before;
+    }
     ras_c_free(&live);
     owes(held == 0, "a handle leaves no block behind");
 }
@@ -760,6 +800,7 @@ int main(void) {
     units();
     lines();
     edits();
+    edits_at_once();
     tells_what_is_new();
     tells_violations_of_a_part();
     tells_parts_of_the_rows();

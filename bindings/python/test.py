@@ -365,6 +365,29 @@ import ras
             whole, tree = ras.parse(live.data), live.tree()
             self.assertEqual((tree.rows.tolist(), repr(tree.errors)), (whole.rows.tolist(), repr(whole.errors)))
 
+    def test_several_edits_give_the_tree_of_the_edited_text(self):
+        text = "fn f() { a; { b } }\nmod m { struct S { c: u8 } /* d */ }\n"
+        inserts = ("", "", "g", "7", "(", "{ x }", " + ", "größe")
+        numbers, live = random.Random(3), ras.Live(text)
+        for n in range(300):
+            if n % 6 == 0:
+                live.edit(0, len(live.data), text)
+            places = [it for it in range(len(live.data) + 1) if it == len(live.data) or live.data[it] & 0xC0 != 0x80]
+            bounds = sorted(numbers.choice(places) for _ in range(2 * numbers.choice((1, 2, 3, 10))))
+            # The ranges are apart, or touch; some insert at one place.
+            edits = [(start, end, numbers.choice(inserts)) for start, end in zip(bounds[::2], bounds[1::2])]
+            edits += [(bounds[0], bounds[0], it) for it in numbers.choice(([], ["a", "b"]))]
+            numbers.shuffle(edits)
+            tree = live.tree().edit(edits)
+            live.edits(iter(edits))
+            self.assertEqual((live.text, live.tree().rows.tolist()), (tree.text, tree.rows.tolist()))
+            self.assertEqual(repr(live.tree().errors), repr(tree.errors))
+        live = ras.Live("fn ü() {}")
+        for refused in ([(0, 2, ""), (1, 3, "")], [(5, 4, "")], [(4, 5, "")], [(0, 99, "")], [(0, 0, b"\xc3"), (0, 0, b"\xa9")], [(0, 0, b"\xff")]):
+            self.assertRaises(ValueError, live.edits, refused)
+        live.edits([])
+        self.assertEqual((live.text, live.tree().text), ("fn ü() {}", "fn ü() {}"))
+
     def test_a_refused_edit_leaves_all_as_it_was(self):
         live = ras.Live("fn ü() {}")
         rows = live.tree().rows.tolist()

@@ -412,6 +412,21 @@ def _edition_of(edition):
     return int(edition)
 
 
+def _edited(data, edits):
+    """A text in which each range of bytes is replaced."""
+    pieces, at = [], 0
+    for start, end, text in sorted(edits, key=lambda it: it[:2]):
+        if not 0 <= start <= end <= len(data):
+            raise ValueError(f"{start}..{end} is no range of the text, which has {len(data)} bytes")
+        if start < at:
+            raise ValueError(f"{start}..{end} overlaps the range before it, which ends at {at}")
+        if any(it < len(data) and data[it] & 0xC0 == 0x80 for it in (start, end)):
+            raise ValueError(f"{start}..{end} does not start and end between characters")
+        pieces += [data[at:start], _bytes_of(text)]
+        at = end
+    return b"".join([*pieces, data[at:]])
+
+
 # So many errors and bytes of messages have room at first.
 _ERROR_ROOM, _MESSAGE_ROOM = 16, 1024
 
@@ -570,17 +585,7 @@ class Tree:
         >>> tree.edit([(13, 14, "g()"), (3, 4, "h")]).text
         'fn h() { a + g() }'
         """
-        pieces, at = [], 0
-        for start, end, text in sorted(edits, key=lambda it: it[:2]):
-            if not 0 <= start <= end <= len(self.data):
-                raise ValueError(f"{start}..{end} is no range of the text, which has {len(self.data)} bytes")
-            if start < at:
-                raise ValueError(f"{start}..{end} overlaps the range before it, which ends at {at}")
-            if any(it < len(self.data) and self.data[it] & 0xC0 == 0x80 for it in (start, end)):
-                raise ValueError(f"{start}..{end} does not start and end between characters")
-            pieces += [self.data[at:start], _bytes_of(text)]
-            at = end
-        return Tree.__new__(Tree)._read(self._entry, b"".join([*pieces, self.data[at:]]), self.edition, "all")
+        return Tree.__new__(Tree)._read(self._entry, _edited(self.data, edits), self.edition, "all")
 
     def search(self, pattern, lines=False):
         """Where a pattern matches, in preorder: the outermost matches, and those inside what stands for placeholders. With `lines`,
@@ -665,6 +670,26 @@ class Live:
             raise ValueError(f"{start}..{end} does not start and end between characters")
         _had_room(status)
         self.data = self.data[:start] + data + self.data[end:]
+
+    def edits(self, edits):
+        """Replaces several ranges of bytes at once, of the text as it is: `edits` are tuples of a start, an end and a text, in any order.
+        Inserts at one place keep their order. All are made or, if it raises, none: ValueError if two ranges overlap, or one is not in the
+        text or does not start and end between characters; ParseError as for `edit`.
+
+        >>> live = Live("fn f(a: u8) { a }")
+        >>> live.edits([(14, 15, "b + 1"), (5, 6, "b")])
+        >>> live.text
+        'fn f(b: u8) { b + 1 }'
+        """
+        self._on_its_thread()
+        edits = [(start, end, _bytes_of(text)) for start, end, text in edits]
+        new = _edited(self.data, edits)
+        rows, inserts = (_raw.EditRow * len(edits))(*((start, end, len(text)) for start, end, text in edits)), b"".join(it[2] for it in edits)
+        status = _library.ras_c_edits(ctypes.byref(self._handle), self.edition, rows, len(rows), inserts, len(inserts))
+        if status == _raw.NOT_CUT:
+            raise ValueError("a text is not UTF-8")
+        _had_room(status)
+        self.data = new
 
     @property
     def text(self):

@@ -40,6 +40,13 @@ VIOLATIONS = 2
 # All errors are told: those of the parse, and then the violations.
 ALL_ERRORS = 3
 
+# Two ranges of an edit overlap. Nothing was written.
+OVERLAP = 19
+
+# The lengths of the inserted texts do not cut their bytes into texts: there are more or fewer
+# bytes, or a text would end inside a character. Nothing was written.
+NOT_CUT = 20
+
 # A number that no kind has.
 NO_KIND = 4294967295
 
@@ -126,7 +133,7 @@ TOO_LARGE = 10
 FAULT = 64
 
 # A number made of the kinds, constants, structs and calls of the library. Bindings that know another number were made for others.
-VERSION = 43401942
+VERSION = 1772290059
 
 # What can be wrong with an escape or a character: the names and the messages, from the status FAULT on.
 FAULTS = [
@@ -164,6 +171,16 @@ class FlatRow(ctypes.Structure):
         ("start", ctypes.c_uint32),
         ("subtree_end", ctypes.c_uint32),
         ("parent", ctypes.c_uint32),
+    ]
+
+
+class EditRow(ctypes.Structure):
+    """One of several replacements of a text. Their inserted texts lie in a buffer, one behind the"""
+
+    _fields_ = [
+        ("start", ctypes.c_uint32),
+        ("end", ctypes.c_uint32),
+        ("insert", ctypes.c_uint32),
     ]
 
 
@@ -288,6 +305,8 @@ class Word(ctypes.Structure):
 
 def declare(library: ctypes.CDLL) -> ctypes.CDLL:
     """Says of each function of the library what it takes and answers."""
+    library.ras_c_edits.argtypes = [ctypes.c_void_p, ctypes.c_uint32, ctypes.c_void_p, ctypes.c_size_t, ctypes.c_void_p, ctypes.c_size_t]
+    library.ras_c_edits.restype = ctypes.c_uint32
     library.ras_c_errors.argtypes = [ctypes.c_void_p, ctypes.c_uint32, ctypes.c_void_p, ctypes.c_size_t, ctypes.c_void_p, ctypes.c_size_t, ctypes.c_void_p]
     library.ras_c_errors.restype = ctypes.c_uint32
     library.ras_c_kind_name.argtypes = [ctypes.c_uint32, ctypes.c_void_p, ctypes.c_size_t]

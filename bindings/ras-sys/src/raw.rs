@@ -39,6 +39,13 @@ pub const VIOLATIONS: u32 = 2;
 /// All errors are told: those of the parse, and then the violations.
 pub const ALL_ERRORS: u32 = 3;
 
+/// Two ranges of an edit overlap. Nothing was written.
+pub const OVERLAP: u32 = 19;
+
+/// The lengths of the inserted texts do not cut their bytes into texts: there are more or fewer
+/// bytes, or a text would end inside a character. Nothing was written.
+pub const NOT_CUT: u32 = 20;
+
 /// A number that no kind has.
 pub const NO_KIND: u32 = 4294967295;
 
@@ -125,7 +132,7 @@ pub const TOO_LARGE: u32 = 10;
 pub const FAULT: u32 = 64;
 
 /// A number made of the kinds, constants, structs and calls of the library. Bindings that know another number were made for others.
-pub const VERSION: u32 = 43401942;
+pub const VERSION: u32 = 1772290059;
 
 /// One node or token, in 16 bytes. Rows are numbered from 0 in preorder.
 #[repr(C)]
@@ -139,6 +146,19 @@ pub struct FlatRow {
     pub subtree_end: u32,
     /// The number of its parent's row; the root, row 0, has 0.
     pub parent: u32,
+}
+
+/// One of several replacements of a text. Their inserted texts lie in a buffer, one behind the
+/// other.
+#[repr(C)]
+#[derive(Clone, Copy, Debug, PartialEq, Eq)]
+pub struct EditRow {
+    /// The byte of the old text where what is replaced starts.
+    pub start: u32,
+    /// The byte where it ends.
+    pub end: u32,
+    /// The length of the inserted text in bytes.
+    pub insert: u32,
 }
 
 /// A parse that is kept between calls, or no parse. A handle of all zeros holds none.
@@ -297,6 +317,31 @@ pub struct Word {
 }
 
 unsafe extern "C" {
+    /// Edits the text of a handle's parse at several places at once: all edits are made or, if they are
+    /// refused, none. The ranges of `edits` are of the text as it is, in any order; texts that are
+    /// inserted at one place stay in the order of the list. `inserts` has the inserted texts, one
+    /// behind the other. The handle then holds the parse of the new text: the same tree and errors that
+    /// `ras_c_parse` would make.
+    ///
+    /// In the edition that the parse is of, up to eight edits are made one after another, the last in
+    /// the text first, and for each one token gets another text or one block is parsed again, if that
+    /// is enough for all of them; else, and in another edition, the whole new text is parsed, once.
+    /// Which parts were read again is not told: `ras_c_edit_told` tells it of one edit.
+    ///
+    /// Returns [`OK`], [`NOT_UTF8`], [`TOO_LONG`], [`NO_MEMORY`], [`NO_EDITION`], [`NO_PARSE`] if the
+    /// handle holds no parse, [`NOT_CUT`] if the lengths in `edits` do not cut `inserts` into texts,
+    /// [`NO_PLACE`] if a range is backwards, not in the text or not on character boundaries, or
+    /// [`OVERLAP`] if two ranges overlap; those that touch do not, nor two insertions at one place.
+    /// Unless it is [`OK`], the handle is not changed.
+    pub fn ras_c_edits(
+        handle: *mut Handle,
+        edition: u32,
+        edits: *const EditRow,
+        edits_len: usize,
+        inserts: *const u8,
+        inserts_len: usize,
+    ) -> u32;
+
     /// Writes a choice of the errors of a handle's parse, such as [`PARSE_ERRORS`], and their messages,
     /// as `ras_c_rows_as` does, without rows. The counts have no rows. The handle keeps its parse.
     ///

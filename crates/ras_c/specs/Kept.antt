@@ -5,6 +5,8 @@ use Rattle.text_size.specs.TextRange.{Bounds}
 use Rattle.tree_model.specs.Tree.{Tree, text}
 use Rattle.tree_model.specs.Cursor.{Cursor}
 use Rattle.tree_model.specs.Edit.{replace}
+use Rattle.text_edit.specs.Replacements.{Replacement}
+use Rattle.text_edit.specs.Replacements.{edited as all_edited, IsEditOf as AreEditsOf}
 use Rattle.ras_front_end.specs.declared.edition.Edition.{Edition}
 use Rattle.ras_front_end.specs.declared.edition.Edition.TheVariants.{Edition2015, Edition2018, Edition2021, Edition2024}
 use Rattle.ras_front_end.specs.declared.edition.Entry.TheVariants.{SourceFile}
@@ -70,3 +72,9 @@ pub record IsEdited (edition : Edition) (edit : Edit) (old new : Kept) : Type 0 
   pub edition_is : new.edition ≡ edition
   pub is_read : IsRead (edited (text old.parse.tree) edit) new
   pub short : length (edited (text old.parse.tree) edit) < 2 ^ 32
+
+-- the same after several replacements, each of a range of the old text
+pub record AreEdited (edition : Edition) (es : List Replacement) (old new : Kept) : Type 0 where
+  pub are_edits : AreEditsOf (text old.parse.tree) es
+  pub edition_is : new.edition ≡ edition
+  pub is_read : IsRead (all_edited (text old.parse.tree) es) new

@@ -16,3 +16,5 @@ pub mod Part
 pub mod Owned
 pub mod Handed
 pub mod Errors
+pub mod EditRows
+pub mod Edits

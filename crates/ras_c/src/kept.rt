@@ -1,12 +1,15 @@
 //! The parse that a handle keeps.
 ghost use Rattle.std.specs.Prelude.{◌≡◌, ◌⊎◌, ◌↔◌, ◌≤◌, ◌<◌, ◌^◌, length, IfOk, IfErr, OnErr, OnOk, IsTrue, string_bytes};
+ghost use Rattle.text_edit.specs.Replacements.{IsRefused};
 ghost use Rattle.tree_model.specs.Tree.{text};
 ghost use Rattle.tree_model.specs.Edit.{root_of};
 ghost use Rattle.ras_front_end.specs.declared.parse_error.ParseError.TheVariants.{TooLong};
 ghost use Rattle.ras_parsing.specs.Edit.{IsEditOf, edited, replacing};
-ghost use Rattle.ras_c.specs.Kept.{IsRead, IsAgain, IsEdited};
+ghost use Rattle.ras_c.specs.Kept.{IsRead, IsAgain, IsEdited, AreEdited};
+ghost use Rattle.ras_c.specs.Edits.{AreEditedBy, IsUnedited, apply_status};
 ghost use Rattle.ras_c.specs.Live.{edit_from};
 
+use crate::edit_rows::{EditRow, edit_of};
 use crate::root::Root;
 use crate::status::{NO_MEMORY, NO_PLACE, TOO_LONG};
 use document_laws::laws::rust_reads_exactly;
@@ -16,6 +19,7 @@ use ras_parsing::{Document, Parse};
 use rust_front::Rust;
 use std::alloc::{AllocError, Global};
 use std::marker::Model;
+use text_edit::{ApplyError, TextEdit};
 
 /// The parse of a text as a file, which may be edited. It is always the parse of its text.
 #[derive(Drop)]
@@ -67,6 +71,16 @@ fn is_too_long(text: &str, delete: TextRange, insert: &str) -> bool
 {
     let kept = text.len() - delete.len().raw() as usize;
     kept + insert.len() > u32::MAX as usize
+}
+
+fn apply_status(refused: ApplyError) -> u32
+    ensures { result ≡ apply_status refused }
+{
+    match refused {
+        ApplyError::PastEnd | ApplyError::InsideCharacter => NO_PLACE,
+        ApplyError::TooLong => TOO_LONG,
+        ApplyError::Memory => NO_MEMORY,
+    }
 }
 
 impl KeptParse {
@@ -190,6 +204,66 @@ impl KeptParse {
             Ok(range) => Ok(range),
             Err(ParseError::TooLong) => Err(TOO_LONG),
             Err(ParseError::Memory) => Err(NO_MEMORY),
+        }
+    }
+
+    // Makes several replacements in the parse's edition.
+    fn edits_here(&mut self, alloc: Global, edit: &TextEdit) -> Result<(), ApplyError>
+        ensures edited { OnOk result (AreEdited self.old.edition edit.now self.old self.new) }
+        ensures unchanged { OnErr result (self.new ≡ self.old) }
+        ensures refused { IfErr result (IsRefused (text self.old.parse.tree) edit.now) }
+    {
+        rust_reads_exactly();
+        self.document.edits(alloc, edit)
+    }
+
+    // Makes several replacements, and reads all of the new text in an edition.
+    fn edits_anew(
+        &mut self,
+        alloc: Global,
+        edition: Edition,
+        edit: &TextEdit,
+    ) -> Result<(), ApplyError>
+        ensures edited { OnOk result (AreEdited edition edit.now self.old self.new) }
+        ensures unchanged { OnErr result (self.new ≡ self.old) }
+        ensures refused { IfErr result (IsRefused (text self.old.parse.tree) edit.now) }
+    {
+        let text = edit.apply(alloc, self.document.text())?;
+        match KeptParse::new(alloc, text.as_str(), edition) {
+            Ok(new) => {
+                *self = new;
+                Ok(())
+            }
+            // The new text is not too long.
+            Err(_) => Err(ApplyError::Memory),
+        }
+    }
+
+    /// Makes the replacements of all rows, or returns the status of the refusal. In the parse's own
+    /// edition they are made as by `Document::edits`; in another one the whole text is parsed.
+    pub(crate) fn edits(
+        &mut self,
+        alloc: Global,
+        edition: Edition,
+        rows: &[EditRow],
+        inserts: &str,
+    ) -> Result<(), u32>
+        ensures edited { OnOk result (AreEditedBy edition rows.now inserts.now self.old self.new) }
+        ensures unchanged { OnErr result (self.new ≡ self.old) }
+        ensures refused { IfErr result (λ s. (s ≡ 3)
+            ⊎ IsUnedited rows.now inserts.now self.old s) }
+        ensures which { IfErr result (λ s. (2 ≤ s) × (s ≤ 3) ⊎ (s ≡ 6)
+            ⊎ (19 ≤ s) × (s ≤ 20)) }
+    {
+        let edit = edit_of(alloc, rows, inserts)?;
+        let edited = if self.document.edition() == edition {
+            self.edits_here(alloc, &edit)
+        } else {
+            self.edits_anew(alloc, edition, &edit)
+        };
+        match edited {
+            Ok(()) => Ok(()),
+            Err(refused) => Err(apply_status(refused)),
         }
     }
 }

@@ -6,6 +6,8 @@
 #![tactic(auto)]
 
 mod choice;
+mod edit_rows;
+mod edits;
 mod errors;
 mod fill;
 mod flat;
