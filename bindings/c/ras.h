@@ -31,6 +31,48 @@ ras_block rattle_realloc(void *at, size_t used, size_t size, size_t align);
 /* Frees a block. */
 void rattle_dealloc(void *at);
 
+/* What a change puts in stands in the place of the element; with nothing, the element is deleted. */
+#define RAS_PLACE_INSTEAD 0u
+
+/* It is put before the element. */
+#define RAS_PLACE_BEFORE 1u
+
+/* It is put after the element. */
+#define RAS_PLACE_AFTER 2u
+
+/* It is put into the node, before its first child. */
+#define RAS_PLACE_FIRST 3u
+
+/* It is put into the node, after its last child. */
+#define RAS_PLACE_LAST 4u
+
+/* A change puts nothing in. */
+#define RAS_CONTENT_NOTHING 0u
+
+/* A change puts a text in: bytes start to end of the texts. */
+#define RAS_CONTENT_TEXT 1u
+
+/* A change puts a copy of an element of the old tree in, that at the row start. */
+#define RAS_CONTENT_ROW 2u
+
+/* A change is before, after or in the place of the root. Nothing was written. */
+#define RAS_BESIDE_ROOT 21u
+
+/* A change puts a child into a token. Nothing was written. */
+#define RAS_INTO_TOKEN 22u
+
+/* A change is of an element that another one replaces or deletes. Nothing was written. */
+#define RAS_REPLACED 23u
+
+/* A change is inside an element that another one replaces or deletes. Nothing was written. */
+#define RAS_IN_REPLACED 24u
+
+/* A change replaces an element inside which there are others. Nothing was written. */
+#define RAS_CHANGED_INSIDE 25u
+
+/* No place or no content of a change has the number. Nothing was written. */
+#define RAS_NO_CHANGE 26u
+
 /* The entry of a file: the root is a SOURCE_FILE. */
 #define RAS_ENTRY_FILE 0u
 
@@ -183,7 +225,7 @@ void rattle_dealloc(void *at);
 #define RAS_FAULT 64u
 
 /* A number made of the kinds, constants, structs and calls of the library. Bindings that know another number were made for others. */
-#define RAS_VERSION 1772290059u
+#define RAS_VERSION 1426711408u
 
 /* The statuses of a wrong escape or character. */
 enum ras_fault {
@@ -573,6 +615,20 @@ typedef struct {
     uint32_t parent;
 } ras_flat_row;
 
+/* One of several changes of a tree. */
+typedef struct {
+    /* The row of the element of the old tree. */
+    uint32_t row;
+    /* Where the change is, such as RAS_PLACE_BEFORE. */
+    uint32_t place;
+    /* What is put in, such as RAS_CONTENT_TEXT. */
+    uint32_t content;
+    /* Where its text starts in the texts, or its row in the old tree. */
+    uint32_t start;
+    /* Where its text ends. */
+    uint32_t end;
+} ras_change_row;
+
 /*
  * One of several replacements of a text. Their inserted texts lie in a buffer, one behind the
  * other.
@@ -730,6 +786,34 @@ typedef struct {
      */
     bool is_raw_identifier;
 } ras_word;
+
+/*
+ * Writes the text of a handle's tree with many changes made at once to the front of out, and its
+ * length to count. The handle keeps its parse. Each change puts a text or a copy of an element,
+ * or nothing, before or after an element, into a node, or in the place of an element, which
+ * deletes it: as SyntaxEditor does. In the tree of fn f() {}, the text g in the place of the
+ * row of its NAME gives fn g() {}.
+ *
+ * All rows are those of the tree as it is, so no change moves another one, and several texts at
+ * one place stay in the order of the list. texts has the texts, each anywhere in it. They are
+ * put in as they are: what they mean there, a parse of the new text tells, as by ras_c_parse. It
+ * takes time linear in the tree and in what is put in.
+ *
+ * Returns RAS_OK, RAS_NOT_UTF8, RAS_TOO_LONG if the new text would be too long, RAS_NO_MEMORY,
+ * RAS_NO_ROOM, RAS_NO_PARSE if the handle holds no parse, or for the first change that is refused
+ * RAS_NO_PLACE if the tree has no such row, RAS_NO_CHANGE if no place or content has the number,
+ * RAS_NOT_CUT if texts has no such part, RAS_BESIDE_ROOT, RAS_INTO_TOKEN, RAS_REPLACED,
+ * RAS_IN_REPLACED or RAS_CHANGED_INSIDE.
+ */
+uint32_t ras_c_change_tree(
+    ras_handle *handle,
+    const ras_change_row *changes,
+    size_t changes_len,
+    const uint8_t *texts,
+    size_t texts_len,
+    uint8_t *out,
+    size_t out_len,
+    uint32_t *count);
 
 /*
  * Edits the text of a handle's parse at several places at once: all edits are made or, if they are

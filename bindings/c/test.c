@@ -465,6 +465,53 @@ static void edits_at_once(void) {
     owes(held == 0, "a freed handle holds nothing");
 }
 
+/* What many changes make of a handle's tree: a status, and the text if it is RAS_OK. */
+static uint32_t changed(ras_handle *handle, const ras_change_row *changes, size_t number, const char *texts, const char *new) {
+    uint8_t out[64] = {7};
+    uint32_t count = 9, status = ras_c_change_tree(handle, changes, number, BYTES(texts), out, sizeof out, &count);
+    if (status == RAS_OK) owes(count == strlen(new) && !memcmp(out, new, count), new);
+    else owes(count == 9 && out[0] == 7, "refused changes write nothing");
+    return status;
+}
+
+static uint32_t change(ras_handle *handle, uint32_t row, uint32_t place, uint32_t content, uint32_t start, uint32_t end) {
+    return changed(handle, &(ras_change_row){row, place, content, start, end}, 1, "\xc3\xa9", "");
+}
+
+/* Many changes of a tree, made at once. Its rows: the file, the function, fn, a blank, the name, f, the list of parameters and its two
+ * parentheses, a blank, the block, the list in it, and its two braces. */
+static void changes_trees(void) {
+    static const char text[] = "fn f() {}";
+    enum { FN = 1, NAME = 4, F = 5, BRACE = 12, REPLACE = RAS_PLACE_INSTEAD, NONE = RAS_CONTENT_NOTHING, TEXT_OF = RAS_CONTENT_TEXT };
+    const ras_change_row many[] = {
+        {NAME, REPLACE, TEXT_OF, 0, 1}, {FN, RAS_PLACE_BEFORE, TEXT_OF, 1, 9}, {BRACE, RAS_PLACE_AFTER, TEXT_OF, 0, 1},
+        {FN, RAS_PLACE_BEFORE, TEXT_OF, 9, 10}, {FN, RAS_PLACE_AFTER, RAS_CONTENT_ROW, FN, 0}, {0, RAS_PLACE_FIRST, RAS_CONTENT_ROW, 3, 0},
+        {0, RAS_PLACE_LAST, TEXT_OF, 9, 10}, {F, RAS_PLACE_BEFORE, NONE, 0, 0},
+    };
+    const ras_change_row inside[] = {{FN, REPLACE, NONE, 0, 0}, {NAME, REPLACE, NONE, 0, 0}, {FN, REPLACE, NONE, 0, 0}, {FN, RAS_PLACE_LAST, NONE, 0, 0}};
+    ras_handle live = {0};
+    uint8_t out[9];
+    uint32_t count = 9;
+    owes(changed(&live, many, 4, "g", "") == RAS_NO_PARSE && changed(&live, many, 4, "\xff", "") == RAS_NOT_UTF8, "an empty handle has no tree");
+    owes(ras_c_parse(BYTES(text), 2024, &live) == RAS_OK, "a text is parsed");
+    owes(changed(&live, many, 7, "g/* a */ \n", " /* a */ \nfn g() {g}fn f() {}\n") == RAS_OK, "changes are made, each at its place");
+    owes(changed(&live, NULL, 0, "", text) == RAS_OK && changed(&live, inside, 1, "", "") == RAS_OK && changed(&live, inside + 1, 1, "", "fn () {}") == RAS_OK,
+        "what is replaced by nothing is deleted");
+    owes(changed(&live, many, 8, "g/* a */ \n", "") == RAS_IN_REPLACED && changed(&live, inside, 2, "", "") == RAS_IN_REPLACED, "what is replaced stays whole");
+    owes(changed(&live, inside + 1, 2, "", "") == RAS_CHANGED_INSIDE, "what is changed inside is not replaced");
+    owes(changed(&live, inside + 2, 2, "", "") == RAS_REPLACED, "what is replaced gets no child");
+    owes(change(&live, 0, RAS_PLACE_AFTER, NONE, 0, 0) == RAS_BESIDE_ROOT && change(&live, 0, REPLACE, NONE, 0, 0) == RAS_BESIDE_ROOT, "nothing is beside the root");
+    owes(change(&live, F, RAS_PLACE_FIRST, NONE, 0, 0) == RAS_INTO_TOKEN && change(&live, F, RAS_PLACE_LAST, NONE, 0, 0) == RAS_INTO_TOKEN, "nor in a token");
+    owes(change(&live, 14, REPLACE, NONE, 0, 0) == RAS_NO_PLACE && change(&live, F, REPLACE, RAS_CONTENT_ROW, 14, 0) == RAS_NO_PLACE, "the tree has no such row");
+    owes(change(&live, F, 5, NONE, 0, 0) == RAS_NO_CHANGE && change(&live, F, REPLACE, 3, 0, 0) == RAS_NO_CHANGE, "no place or content has the number");
+    owes(change(&live, F, REPLACE, TEXT_OF, 0, 1) == RAS_NOT_CUT && change(&live, F, REPLACE, TEXT_OF, 2, 0) == RAS_NOT_CUT
+        && change(&live, F, REPLACE, TEXT_OF, 0, 3) == RAS_NOT_CUT, "the texts have no such part");
+    owes(ras_c_change_tree(&live, NULL, 0, NULL, 0, out, 8, &count) == RAS_NO_ROOM && count == 9 && tells(&live, text), "a text needs room, and the handle stays");
+    owes(ras_c_change_tree(&live, NULL, 0, NULL, 0, out, 9, &count) == RAS_OK && !memcmp(out, text, 9), "just enough room is enough");
+    ras_c_free(&live);
+    owes(held == 0, "a freed handle holds nothing");
+}
+
 static uint32_t rows_at(ras_handle *handle, uint32_t told, uint32_t start, uint32_t end, size_t room, ras_counts *counts) {
     return ras_c_rows_at(handle, told, start, end, rows, room, errors, ERRORS, messages, MESSAGES, counts);
 }
@@ -727,6 +774,11 @@ static void refuses_parts(void) {
         counts = (ras_counts){9, 9, 9, 9};
         status = ras_c_errors(&live, RAS_ALL_ERRORS, errors, ERRORS, messages, MESSAGES, &counts);
         owes(status == RAS_OK ? counts.violations == 1 : status == RAS_NO_MEMORY && counts.rows == 9, "errors are told or refused");
+        uint8_t out[64] = {7};
+        uint32_t count = 9;
+        const ras_change_row both[] = {{4, RAS_PLACE_INSTEAD, RAS_CONTENT_TEXT, 0, 1}, {1, RAS_PLACE_AFTER, RAS_CONTENT_ROW, 3, 0}};
+        status = ras_c_change_tree(&live, both, 2, BYTES("g"), out, sizeof out, &count);
+        owes(status == RAS_OK ? count == 25 : status == RAS_NO_MEMORY && count == 9 && out[0] == 7, "changes are made or refused");
     }
     ras_c_free(&live);
     owes(held == 0, "a handle leaves no block behind");
@@ -801,6 +853,7 @@ int main(void) {
     lines();
     edits();
     edits_at_once();
+    changes_trees();
     tells_what_is_new();
     tells_violations_of_a_part();
     tells_parts_of_the_rows();

@@ -388,6 +388,27 @@ import ras
         live.edits([])
         self.assertEqual((live.text, live.tree().text), ("fn ü() {}", "fn ü() {}"))
 
+    def test_a_tree_is_changed(self):
+        live = ras.Live("fn ü() { a }")
+        tree = live.tree()
+        item, name, path, brace = (next(tree.find(it)) for it in ("FN", "NAME", "PATH_EXPR", "L_CURLY"))
+        new = live.changed([(name, "instead", "g"), (item, "before", "// ü\n"), (brace, "after", " b;"), (path, "first", "("), (path, "last", b")"), (item, "after", item)])
+        self.assertEqual(new, "// ü\nfn g() { b; (a) }fn ü() { a }")
+        self.assertEqual((live.changed([]), live.changed(iter([(path, "instead", None)]))), (live.text, "fn ü() {  }"))
+        self.assertEqual(live.changed([(item, "after", it) for it in ("b", item, "x" * 1000)]), live.text + "b" + live.text + "x" * 1000)
+        self.assertEqual(live.changed([(item, "before", item)] * 20), live.text * 21)
+        refused = [
+            [(tree.root, "before", "x")], [(brace, "first", "x")], [(item, "instead", None), (name, "after", "x")], [(name, "after", "x"), (item, "instead", "y")],
+            [(item, "instead", "x"), (item, "last", "y")], [(item, "behind", "x")], [(item, "after", b"\xff")], [(item, "before", b"\xc3"), (item, "after", b"\xbc")],
+            [(ras.parse("fn f() {}").root, "first", "x")], [(ras.parse_expr("fn ü() { a }").root, "first", "x")], [(item, "after", ras.parse("a").root)],
+        ]
+        for changes in refused:
+            self.assertRaises(ValueError, live.changed, changes)
+        self.assertRaises(TypeError, live.changed, [(item, "after", 5)])
+        live.edit(3, 5, "v")
+        self.assertRaises(ValueError, live.changed, [(item, "instead", None)])
+        self.assertEqual(live.changed([(live.tree().root, "first", "x")]), "xfn v() { a }")
+
     def test_a_refused_edit_leaves_all_as_it_was(self):
         live = ras.Live("fn ü() {}")
         rows = live.tree().rows.tolist()

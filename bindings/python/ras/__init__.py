@@ -691,6 +691,47 @@ class Live:
         _had_room(status)
         self.data = new
 
+    def changed(self, changes):
+        """The text with some changes of its tree, made at once: tuples of an element of `tree()`, a place, and what is put there, which is
+        a text, an element, or None. A place is "before" or "after" the element, "first" or "last" in the node, or "instead": in the place
+        of the element, which None deletes. All elements are those of the tree as it is, so no change moves another, and what is put at one
+        place stays in the order of the list. The text itself stays. ValueError if a change is beside the root, in a token, or of what
+        another one replaces, or if an element is not of the tree.
+
+        >>> live = Live("fn f() {}")
+        >>> name = next(live.tree().find("NAME"))
+        >>> live.changed([(name, "instead", "g"), (name.parent, "before", "/* a */ "), (name.parent, "after", name.parent)])
+        '/* a */ fn g() {}fn f() {}'
+        """
+        self._on_its_thread()
+        rows, texts = [], b""
+        for element, place, content in changes:
+            if place not in _PLACES:
+                raise ValueError(f"a place is one of {', '.join(map(repr, _PLACES))}, not {place!r}")
+            if content is None:
+                told = _raw.CONTENT_NOTHING, 0, 0
+            elif isinstance(content, Element):
+                told = _raw.CONTENT_ROW, self._row(content), 0
+            else:
+                start, texts = len(texts), texts + _bytes_of(content)
+                told = _raw.CONTENT_TEXT, start, len(texts)
+            rows.append((self._row(element), _PLACES[place], *told))
+        given, count = (_raw.ChangeRow * len(rows))(*rows), ctypes.c_uint32()
+        out = ctypes.create_string_buffer(len(self.data) + len(texts) + 64)
+        while True:
+            status = _library.ras_c_change_tree(ctypes.byref(self._handle), given, len(given), texts, len(texts), out, len(out), ctypes.byref(count))
+            if status in _NOT_CHANGED:
+                raise ValueError(_NOT_CHANGED[status])
+            if _had_room(status):
+                return ctypes.string_at(out, count.value).decode()
+            out = ctypes.create_string_buffer(count.value)
+
+    def _row(self, element):
+        """The row of an element of the tree as it is now."""
+        if element.tree.data != self.data or element.tree._entry != _raw.ENTRY_FILE or element.tree.edition != self.edition:
+            raise ValueError(f"{element!r} is not of the tree of the text")
+        return element.row
+
     @property
     def text(self):
         """The text as it is now."""
@@ -703,6 +744,17 @@ class Live:
         tree._tell(self.data, self.edition, functools.partial(_library.ras_c_rows_as, ctypes.byref(self._handle), _choice(errors)))
         return tree
 
+
+_PLACES = {"instead": _raw.PLACE_INSTEAD, "before": _raw.PLACE_BEFORE, "after": _raw.PLACE_AFTER, "first": _raw.PLACE_FIRST, "last": _raw.PLACE_LAST}
+
+_NOT_CHANGED = {
+    _raw.BESIDE_ROOT: "the root has no siblings, and is not replaced",
+    _raw.INTO_TOKEN: "a token has no children",
+    _raw.REPLACED: "an element is replaced already",
+    _raw.IN_REPLACED: "an element is inside one that is replaced",
+    _raw.CHANGED_INSIDE: "something inside an element is changed already, so that it cannot be replaced",
+    _raw.NOT_CUT: "a text is not UTF-8",
+}
 
 _NO_EXPRESSION = {_raw.NO_PLACE: "no expression has its range", _raw.NO_EXPR: "the text is not one expression"}
 

@@ -1,6 +1,48 @@
 """The calls of the library, as `crates/ras_c` declares them. Written by bindings/make."""
 import ctypes
 
+# What a change puts in stands in the place of the element; with nothing, the element is deleted.
+PLACE_INSTEAD = 0
+
+# It is put before the element.
+PLACE_BEFORE = 1
+
+# It is put after the element.
+PLACE_AFTER = 2
+
+# It is put into the node, before its first child.
+PLACE_FIRST = 3
+
+# It is put into the node, after its last child.
+PLACE_LAST = 4
+
+# A change puts nothing in.
+CONTENT_NOTHING = 0
+
+# A change puts a text in: bytes `start` to `end` of the texts.
+CONTENT_TEXT = 1
+
+# A change puts a copy of an element of the old tree in, that at the row `start`.
+CONTENT_ROW = 2
+
+# A change is before, after or in the place of the root. Nothing was written.
+BESIDE_ROOT = 21
+
+# A change puts a child into a token. Nothing was written.
+INTO_TOKEN = 22
+
+# A change is of an element that another one replaces or deletes. Nothing was written.
+REPLACED = 23
+
+# A change is inside an element that another one replaces or deletes. Nothing was written.
+IN_REPLACED = 24
+
+# A change replaces an element inside which there are others. Nothing was written.
+CHANGED_INSIDE = 25
+
+# No place or no content of a change has the number. Nothing was written.
+NO_CHANGE = 26
+
 # The entry of a file: the root is a `SOURCE_FILE`.
 ENTRY_FILE = 0
 
@@ -133,7 +175,7 @@ TOO_LARGE = 10
 FAULT = 64
 
 # A number made of the kinds, constants, structs and calls of the library. Bindings that know another number were made for others.
-VERSION = 1772290059
+VERSION = 1426711408
 
 # What can be wrong with an escape or a character: the names and the messages, from the status FAULT on.
 FAULTS = [
@@ -171,6 +213,18 @@ class FlatRow(ctypes.Structure):
         ("start", ctypes.c_uint32),
         ("subtree_end", ctypes.c_uint32),
         ("parent", ctypes.c_uint32),
+    ]
+
+
+class ChangeRow(ctypes.Structure):
+    """One of several changes of a tree."""
+
+    _fields_ = [
+        ("row", ctypes.c_uint32),
+        ("place", ctypes.c_uint32),
+        ("content", ctypes.c_uint32),
+        ("start", ctypes.c_uint32),
+        ("end", ctypes.c_uint32),
     ]
 
 
@@ -305,6 +359,8 @@ class Word(ctypes.Structure):
 
 def declare(library: ctypes.CDLL) -> ctypes.CDLL:
     """Says of each function of the library what it takes and answers."""
+    library.ras_c_change_tree.argtypes = [ctypes.c_void_p, ctypes.c_void_p, ctypes.c_size_t, ctypes.c_void_p, ctypes.c_size_t, ctypes.c_void_p, ctypes.c_size_t, ctypes.c_void_p]
+    library.ras_c_change_tree.restype = ctypes.c_uint32
     library.ras_c_edits.argtypes = [ctypes.c_void_p, ctypes.c_uint32, ctypes.c_void_p, ctypes.c_size_t, ctypes.c_void_p, ctypes.c_size_t]
     library.ras_c_edits.restype = ctypes.c_uint32
     library.ras_c_errors.argtypes = [ctypes.c_void_p, ctypes.c_uint32, ctypes.c_void_p, ctypes.c_size_t, ctypes.c_void_p, ctypes.c_size_t, ctypes.c_void_p]

@@ -1,5 +1,47 @@
 //! The calls of the library, as `crates/ras_c` declares them. Written by bindings/make.
 
+/// What a change puts in stands in the place of the element; with nothing, the element is deleted.
+pub const PLACE_INSTEAD: u32 = 0;
+
+/// It is put before the element.
+pub const PLACE_BEFORE: u32 = 1;
+
+/// It is put after the element.
+pub const PLACE_AFTER: u32 = 2;
+
+/// It is put into the node, before its first child.
+pub const PLACE_FIRST: u32 = 3;
+
+/// It is put into the node, after its last child.
+pub const PLACE_LAST: u32 = 4;
+
+/// A change puts nothing in.
+pub const CONTENT_NOTHING: u32 = 0;
+
+/// A change puts a text in: bytes `start` to `end` of the texts.
+pub const CONTENT_TEXT: u32 = 1;
+
+/// A change puts a copy of an element of the old tree in, that at the row `start`.
+pub const CONTENT_ROW: u32 = 2;
+
+/// A change is before, after or in the place of the root. Nothing was written.
+pub const BESIDE_ROOT: u32 = 21;
+
+/// A change puts a child into a token. Nothing was written.
+pub const INTO_TOKEN: u32 = 22;
+
+/// A change is of an element that another one replaces or deletes. Nothing was written.
+pub const REPLACED: u32 = 23;
+
+/// A change is inside an element that another one replaces or deletes. Nothing was written.
+pub const IN_REPLACED: u32 = 24;
+
+/// A change replaces an element inside which there are others. Nothing was written.
+pub const CHANGED_INSIDE: u32 = 25;
+
+/// No place or no content of a change has the number. Nothing was written.
+pub const NO_CHANGE: u32 = 26;
+
 /// The entry of a file: the root is a `SOURCE_FILE`.
 pub const ENTRY_FILE: u32 = 0;
 
@@ -132,7 +174,7 @@ pub const TOO_LARGE: u32 = 10;
 pub const FAULT: u32 = 64;
 
 /// A number made of the kinds, constants, structs and calls of the library. Bindings that know another number were made for others.
-pub const VERSION: u32 = 1772290059;
+pub const VERSION: u32 = 1426711408;
 
 /// One node or token, in 16 bytes. Rows are numbered from 0 in preorder.
 #[repr(C)]
@@ -146,6 +188,22 @@ pub struct FlatRow {
     pub subtree_end: u32,
     /// The number of its parent's row; the root, row 0, has 0.
     pub parent: u32,
+}
+
+/// One of several changes of a tree.
+#[repr(C)]
+#[derive(Clone, Copy, Debug, PartialEq, Eq)]
+pub struct ChangeRow {
+    /// The row of the element of the old tree.
+    pub row: u32,
+    /// Where the change is, such as [`PLACE_BEFORE`].
+    pub place: u32,
+    /// What is put in, such as [`CONTENT_TEXT`].
+    pub content: u32,
+    /// Where its text starts in the texts, or its row in the old tree.
+    pub start: u32,
+    /// Where its text ends.
+    pub end: u32,
 }
 
 /// One of several replacements of a text. Their inserted texts lie in a buffer, one behind the
@@ -317,6 +375,33 @@ pub struct Word {
 }
 
 unsafe extern "C" {
+    /// Writes the text of a handle's tree with many changes made at once to the front of `out`, and its
+    /// length to `count`. The handle keeps its parse. Each change puts a text or a copy of an element,
+    /// or nothing, before or after an element, into a node, or in the place of an element, which
+    /// deletes it: as `SyntaxEditor` does. In the tree of `fn f() {}`, the text `g` in the place of the
+    /// row of its `NAME` gives `fn g() {}`.
+    ///
+    /// All rows are those of the tree as it is, so no change moves another one, and several texts at
+    /// one place stay in the order of the list. `texts` has the texts, each anywhere in it. They are
+    /// put in as they are: what they mean there, a parse of the new text tells, as by `ras_c_parse`. It
+    /// takes time linear in the tree and in what is put in.
+    ///
+    /// Returns [`OK`], [`NOT_UTF8`], [`TOO_LONG`] if the new text would be too long, [`NO_MEMORY`],
+    /// [`NO_ROOM`], [`NO_PARSE`] if the handle holds no parse, or for the first change that is refused
+    /// [`NO_PLACE`] if the tree has no such row, [`NO_CHANGE`] if no place or content has the number,
+    /// [`NOT_CUT`] if `texts` has no such part, [`BESIDE_ROOT`], [`INTO_TOKEN`], [`REPLACED`],
+    /// [`IN_REPLACED`] or [`CHANGED_INSIDE`].
+    pub fn ras_c_change_tree(
+        handle: *mut Handle,
+        changes: *const ChangeRow,
+        changes_len: usize,
+        texts: *const u8,
+        texts_len: usize,
+        out: *mut u8,
+        out_len: usize,
+        count: *mut u32,
+    ) -> u32;
+
     /// Edits the text of a handle's parse at several places at once: all edits are made or, if they are
     /// refused, none. The ranges of `edits` are of the text as it is, in any order; texts that are
     /// inserted at one place stay in the order of the list. `inserts` has the inserted texts, one

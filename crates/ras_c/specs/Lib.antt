@@ -18,3 +18,5 @@ pub mod Handed
 pub mod Errors
 pub mod EditRows
 pub mod Edits
+pub mod ChangeRows
+pub mod Changes

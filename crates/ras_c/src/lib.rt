@@ -5,6 +5,8 @@
 //! kept between calls.
 #![tactic(auto)]
 
+mod change_rows;
+mod changes;
 mod choice;
 mod edit_rows;
 mod edits;
