@@ -230,8 +230,8 @@ impl KeptParse {
     {
         let text = edit.apply(alloc, self.document.text())?;
         match KeptParse::new(alloc, text.as_str(), edition) {
-            Ok(new) => {
-                *self = new;
+            Ok(kept) => {
+                *self = kept;
                 Ok(())
             }
             // The new text is not too long.
