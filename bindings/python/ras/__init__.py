@@ -704,7 +704,7 @@ class Live:
         '/* a */ fn g() {}fn f() {}'
         """
         self._on_its_thread()
-        rows, texts = [], b""
+        rows, texts, length = [], [], 0
         for element, place, content in changes:
             if place not in _PLACES:
                 raise ValueError(f"a place is one of {', '.join(map(repr, _PLACES))}, not {place!r}")
@@ -713,13 +713,14 @@ class Live:
             elif isinstance(content, Element):
                 told = _raw.CONTENT_ROW, self._row(content), 0
             else:
-                start, texts = len(texts), texts + _bytes_of(content)
-                told = _raw.CONTENT_TEXT, start, len(texts)
+                texts.append(_bytes_of(content))
+                told = _raw.CONTENT_TEXT, length, length + len(texts[-1])
+                length = told[2]
             rows.append((self._row(element), _PLACES[place], *told))
-        given, count = (_raw.ChangeRow * len(rows))(*rows), ctypes.c_uint32()
-        out = ctypes.create_string_buffer(len(self.data) + len(texts) + 64)
+        given, count, text = (_raw.ChangeRow * len(rows))(*rows), ctypes.c_uint32(), b"".join(texts)
+        out = ctypes.create_string_buffer(len(self.data) + length + 64)
         while True:
-            status = _library.ras_c_change_tree(ctypes.byref(self._handle), given, len(given), texts, len(texts), out, len(out), ctypes.byref(count))
+            status = _library.ras_c_change_tree(ctypes.byref(self._handle), given, len(given), text, length, out, len(out), ctypes.byref(count))
             if status in _NOT_CHANGED:
                 raise ValueError(_NOT_CHANGED[status])
             if _had_room(status):
