@@ -49,7 +49,8 @@ impl TreeSink {
     fn start(&mut self, kind: SyntaxKind, is_token: bool, len: TextSize) -> Result<(), AllocError>
         ensures { OnOk result ((before : List FrontStep)
             → AreOf self.old.rows self.old.errors.items before
-            → AreOf self.new.rows self.new.errors.items (before ++ started kind is_token len ∷ [])) }
+            → AreOf self.new.rows self.new.errors.items
+            (before ++ started kind is_token len ∷ [])) }
     {
         let event = if is_token {
             BuilderEvent::Token(kind, len.raw() as usize)
