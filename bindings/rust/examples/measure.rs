@@ -85,7 +85,7 @@ fn main() -> Result<(), Box<dyn std::error::Error>> {
             ("edit and Live::tree, parse errors", Errors::Parse),
             ("edit and Live::tree, no errors", Errors::Nothing),
         ] {
-            rounds.tell(line, 1000, "us", || live.edit(name.text_range(), name.text()).map(|()| live.tree_with(errors)));
+            rounds.tell(line, 1000, "us", || live.edit(name.text_range(), name.text()).map(|_| live.tree_with(errors)));
         }
     }
     Ok(())

@@ -1,6 +1,6 @@
 //! A text that is edited, and its parse.
 use crate::held::Held;
-use crate::range::TextRange;
+use crate::range::{TextRange, TextSize};
 use crate::splice::Since;
 use crate::text_edit::{ApplyError, TextEdit};
 use crate::tree::{Edition, Errors, ParseError, Tree};
@@ -26,7 +26,7 @@ use std::fmt;
 ///
 /// ```
 /// let mut live = ras::Live::parse("fn f() {}", ras::Edition::CURRENT)?;
-/// let thread = std::thread::spawn(move || live.edit(ras::TextRange::new(3.into(), 4.into()), "g").map(|()| live));
+/// let thread = std::thread::spawn(move || live.edit(ras::TextRange::new(3.into(), 4.into()), "g").map(|_| live));
 /// assert_eq!(thread.join().unwrap()?.tree()?.text(), "fn g() {}");
 /// # Ok::<(), Box<dyn std::error::Error>>(())
 /// ```
@@ -86,7 +86,8 @@ impl Live {
         Ok(Live { held: RefCell::new(Held::parse(&text, edition)?), text, edition, last: RefCell::new(None) })
     }
 
-    /// Replaces the bytes of a range. Where this is refused, the text and its parse stay as they were.
+    /// Replaces the bytes of a range, and returns the range of the new text that was read again: that of a block, that of a node with a
+    /// token as a child that got another text, or the whole. Where the edit is refused, the text and its parse stay as they were.
     ///
     /// ```
     /// use ras::{EditError, Edition, Live, TextRange};
@@ -100,7 +101,7 @@ impl Live {
     /// ```
     ///
     /// It copies the text, even if only one token gets another text, and so takes time linear in it.
-    pub fn edit(&mut self, delete: TextRange, insert: &str) -> Result<(), EditError> {
+    pub fn edit(&mut self, delete: TextRange, insert: &str) -> Result<TextRange, EditError> {
         let (status, again) = self.held.get_mut().edit(self.edition, delete, insert);
         match status {
             raw::OK => {
@@ -108,7 +109,7 @@ impl Live {
                 if let Some(last) = self.last.get_mut() {
                     last.since = last.since.and(again, delete, insert.len() as u32, self.text.len() as u32);
                 }
-                Ok(())
+                Ok(again)
             }
             raw::NO_PLACE => Err(EditError::NoPlace),
             raw::TOO_LONG => Err(EditError::TooLong),
@@ -117,7 +118,8 @@ impl Live {
     }
 
     /// Makes all replacements of an edit, whose ranges are of the text as it is: the last one first, each as by [`Live::edit`], so that of
-    /// each only the token or block around it is read again, where that is enough. Where the edit is refused, nothing is changed; but if
+    /// each only the token or block around it is read again, where that is enough. It returns what was read again for each, in their
+    /// order, as ranges of the new text, of which one may be in another. Where the edit is refused, nothing is changed; but if
     /// memory runs out, the replacements behind may have been made, and the text and its parse are those with these. It is refused as
     /// [`EditError::TooLong`], too, if the text between two replacements would be too long.
     ///
@@ -127,13 +129,14 @@ impl Live {
     /// let mut live = Live::parse("fn f(a: u8) { a }", Edition::CURRENT)?;
     /// let mut edit = TextEdit::replace(TextRange::new(5.into(), 6.into()), "b");
     /// edit.add(Indel::replace(TextRange::new(14.into(), 15.into()), "b + 1"))?;
-    /// live.edits(&edit)?;
+    /// let again = live.edits(&edit)?;
     /// assert_eq!(live.text(), "fn f(b: u8) { b + 1 }");
+    /// assert_eq!(again.iter().map(|it| &live.text()[*it]).collect::<Vec<_>>(), ["b", "{ b + 1 }"]);
     /// # Ok::<(), Box<dyn std::error::Error>>(())
     /// ```
     ///
     /// Each replacement copies the text, so many of them are made sooner by [`Live::parse`] of [`TextEdit::apply`].
-    pub fn edits(&mut self, edit: &TextEdit) -> Result<(), EditError> {
+    pub fn edits(&mut self, edit: &TextEdit) -> Result<Vec<TextRange>, EditError> {
         edit.check(&self.text).map_err(|refused| match refused {
             ApplyError::PastEnd | ApplyError::InsideCharacter => EditError::NoPlace,
             ApplyError::TooLong => EditError::TooLong,
@@ -146,7 +149,20 @@ impl Live {
         if lens.max().is_some_and(|longest| u32::try_from(longest).is_err()) {
             return Err(EditError::TooLong);
         }
-        edit.iter().rev().try_for_each(|it| self.edit(it.delete, &it.insert))
+        let indels: Vec<_> = edit.iter().collect();
+        let told = indels.iter().rev().map(|it| self.edit(it.delete, &it.insert)).collect::<Result<Vec<_>, _>>()?;
+        // By how much the replacements before each move what is behind them. Those of the same piece move its end alone.
+        let mut moves = vec![0];
+        moves.extend(indels.iter().scan(0, |moved, it| {
+            *moved += it.insert.len() as i64 - i64::from(u32::from(it.delete.len()));
+            Some(*moved)
+        }));
+        let moved = |offset: TextSize, by: i64| TextSize::from((i64::from(u32::from(offset)) + by) as u32);
+        let ranges = told.into_iter().rev().enumerate().map(|(n, range)| {
+            let before = indels[..n].partition_point(|it| it.delete.end() <= range.start());
+            TextRange::new(moved(range.start(), moves[before]), moved(range.end(), moves[n]))
+        });
+        Ok(ranges.collect())
     }
 
     /// The tree of the text as it is now, which later edits leave as it is.

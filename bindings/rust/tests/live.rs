@@ -211,7 +211,16 @@ fn edits_are_made_together() {
             let _ = edit.add(Indel::replace(random.of(&names), random.of(&["a", "b2", "größe", "7", "x.y", "{ z }"])));
         }
         let new = edit.apply(edited.text()).unwrap();
-        edited.edits(&edit).unwrap();
+        let again = edited.edits(&edit).unwrap();
+        // Each has what was put in.
+        let mut moved = 0;
+        assert_eq!(again.len(), edit.iter().count());
+        for (range, it) in again.iter().zip(edit.iter()) {
+            let start = (usize::from(it.delete.start()) as isize + moved) as usize;
+            assert!(usize::from(range.start()) <= start && start + it.insert.len() <= usize::from(range.end()));
+            assert!(usize::from(range.end()) <= new.len());
+            moved += it.insert.len() as isize - usize::from(it.delete.len()) as isize;
+        }
         assert_eq!((edited.text(), edited.tree().unwrap()), (&*new, Tree::parse(&*new, Edition::CURRENT).unwrap()));
         if new.len() > 2 * TEXT.len() {
             edited = live(TEXT);
