@@ -30,7 +30,7 @@ PARTS = (
     ("events", "grammar_machine::machine::run"),
     ("where nodes begin", "event_layout::starts::find_starts"),
     ("steps, and rows of them", "event_layout::layout::walked"),
-    ("of these, rows that begin", "ras_parsing::sink::TreeSink::add"),
+    ("of these, rows that begin", "ras_parsing::sink::TreeSink::start"),
     ("from the text to rows", "rust_front::front::whole_into"),
     ("from the text to the tree", "ras_parsing::sink::read_tree"),
 )

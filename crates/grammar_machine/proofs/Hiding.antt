@@ -28,6 +28,10 @@ pub hides-suc : (g : Tables) (ts : List Sight) (at n : ℕ) → hides_of g ts at
 unfolding hides_of
 hides-suc g ts at n = refl
 
+pub hides-one : (g : Tables) (ts : List Sight) (at : ℕ) → hides_of g ts at 1 ≡ is_brace_of g (seen_at_of ts One (further_of at 0))
+hides-one g ts at =
+    hides-suc g ts at 0 ∙ ap (λ x. x || is_brace_of g (seen_at_of ts One (further_of at 0))) (hides-none g ts at)
+
 pub hides-more : (g : Tables) (ts : List Sight) (at n : ℕ) → hides_of g ts at n ≡ false → is_brace_of g (seen_at_of ts One (further_of at n)) ≡ false → hides_of g ts at (n + 1) ≡ false
 hides-more g ts at n p q = ap (hides_of g ts at) (let e : n + 1 ≡ suc n = omega arith in e) ∙ hides-suc g ts at n ∙ ap₂ (λ x y. x || y) p q
 

@@ -44,12 +44,8 @@ pub(crate) struct Place {
 fn seen_as(view: View, sight: Sight) -> u8
     ensures { result ≡ seen_as_of view sight }
 {
-    match view {
-        View::One => sight.one,
-        View::Two => sight.two,
-        View::Three => sight.three,
-        View::Word => sight.word,
-    }
+    let seen = [sight.one, sight.two, sight.three, sight.word];
+    seen[view as usize]
 }
 
 #[inline(always)]
@@ -174,6 +170,23 @@ impl Grammar<'_> {
     // Whether one of the next `ahead` tokens is a brace.
     #[inline(always)]
     fn hides(&self, sights: &[Sight], at: usize, ahead: u8) -> bool
+        ensures { result ≡ hides_of (tables_of self.now) sights.now at ahead }
+    {
+        // Nearly all tests look at this token or at the next one.
+        if ahead == 0 {
+            return false;
+        }
+        if self.is_brace(kind_at(sights, at)) {
+            return true;
+        }
+        if ahead == 1 {
+            return false;
+        }
+        self.hides_among(sights, at, ahead)
+    }
+
+    #[inline(never)]
+    fn hides_among(&self, sights: &[Sight], at: usize, ahead: u8) -> bool
         ensures { result ≡ hides_of (tables_of self.now) sights.now at ahead }
     {
         for i in 0..ahead {

@@ -32,4 +32,4 @@ pub use siblings_left::SiblingsLeft;
 pub use syntax_kind::{KINDS, Language, NodeKind, RustLanguage, SyntaxKind, TokenKind};
 pub use text_size::{TextRange, TextSize};
 pub use tree_model::{Direction, FinishError, ReplaceError};
-pub use tree_rows::{BuilderEvent, FlatRow, KindSet, NotFlat, RowBuilder, TreeStep};
+pub use tree_rows::{BuilderEvent, FlatRow, KindSet, NotFlat, RowBuilder, RowKind, TreeStep};

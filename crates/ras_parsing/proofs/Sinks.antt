@@ -10,11 +10,13 @@ use Rattle.tree_rows.specs.Builder.{TextsFit, IsOneTree}
 use Rattle.tree_rows.specs.Builder as builder
 use Rattle.tree_rows.specs.Making.{Making, after_step, run, nothing_made, MadeOf}
 use Rattle.tree_rows.specs.Run.{text_len}
+use Rattle.tree_rows.specs.Heads.{head, step_of}
+use Rattle.syntax_kind.specs.declared.syntax_kind.SyntaxKind.{SyntaxKind}
 use Rattle.ras_front_end.specs.ErrorModel.{ErrorModel, LiesIn, fault_at}
 use Rattle.ras_front_end.specs.Reading.{FrontStep, begins, takes, ends, reports, Reading, front_event, events_from, Cuts, step_faults, stored_faults}
 use Rattle.ras_front_end.specs.Keeps.{Keeps}
 use Rattle.ras_front_end.specs.Parsed.{IsParseOf, ErrorsLieIn}
-use Rattle.ras_parsing.specs.Sinks.{AreOf}
+use Rattle.ras_parsing.specs.Sinks.{AreOf, started}
 use Rattle.ras_parsing.proofs.TreeTexts.{built_text}
 
 -- ---- steps, one after another
@@ -84,6 +86,10 @@ step_added m m' errors es s e is next a = record {
       ap (λ l. run l nothing_made) both ∙ run_append (filter_map front_event es) e nothing_made ∙ ap (after_step e) before ∙ sym (next (omega (arith, at, len)));
   errors_are = a.errors_are ∙ sym (append-nil (step_faults es)) ∙ ap (λ l. step_faults es ++ l) (sym (no_fault s e is)) ∙ sym (faults_append es (s ∷ []));
 }
+
+pub started_event : (k : SyntaxKind) (t : Bool) (n : ℕ) → front_event (started k t n) ≡ Some (step_of (head k t) n)
+started_event k true n = refl
+started_event k false n = refl
 
 pub fault_added : (m : Making) (errors errors' : List ErrorModel) (es : List FrontStep) (t : List ℕ) (p : ℕ) → errors' ≡ errors ++ fault_at t p ∷ []
     → AreOf m errors es → AreOf m errors' (es ++ reports t p ∷ [])

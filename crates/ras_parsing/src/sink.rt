@@ -1,12 +1,12 @@
 //! From the steps of a parse to a tree, as they come.
-ghost use Rattle.std.specs.Prelude.{◌≡◌, ◌<◌, ◌^◌, ◌++◌, ◌∷◌, [], List, Some, length, IfOk, OnOk, string_bytes};
+ghost use Rattle.std.specs.Prelude.{◌≡◌, ◌<◌, ◌^◌, ◌++◌, ◌∷◌, [], List, length, IfOk, OnOk, string_bytes};
 ghost use Rattle.tree_model.specs.Cursor.{IsRoot};
 ghost use Rattle.ras_front_end.specs.Parsed.{IsParseOf, ErrorsLieIn};
-ghost use Rattle.ras_front_end.specs.Reading.{FrontStep, front_event, step_faults, ends, reports};
+ghost use Rattle.ras_front_end.specs.Reading.{FrontStep, step_faults, ends, reports};
 ghost use Rattle.ras_parsing.specs.Sinks.{AreOf, started};
 
 use crate::build::store;
-use lossless_tree::{BuilderEvent, RowBuilder, SyntaxNode, tree_of_rows};
+use lossless_tree::{RowBuilder, RowKind, SyntaxNode, tree_of_rows};
 use ras_front_end::{Edition, Entry, FrontEnd, StepSink, SyntaxError};
 use std::alloc::{AllocError, Global};
 use syntax_kind::SyntaxKind;
@@ -33,31 +33,16 @@ impl TreeSink {
         Ok(())
     }
 
-    #[inline(always)]
-    fn add(&mut self, event: BuilderEvent) -> Result<(), AllocError>
-        ensures { OnOk result ((step : FrontStep) → front_event step ≡ Some event
-            → (before : List FrontStep) → AreOf self.old.rows self.old.errors.items before
-            → AreOf self.new.rows self.new.errors.items (before ++ step ∷ [])) }
-    {
-        self.rows.add(event)?;
-        Ok(())
-    }
-
-    // One function for nodes and tokens, so that the compiler puts the `push` of a row into it. It
-    // takes the parts of an event, which are in registers, where an event would be in memory.
+    // One function for nodes and tokens, which is called in several places. Its arguments are in
+    // registers: a `SyntaxKind` would be in memory, written in two parts and read as one.
     #[inline(never)]
-    fn start(&mut self, kind: SyntaxKind, is_token: bool, len: TextSize) -> Result<(), AllocError>
+    fn start(&mut self, kind: RowKind, len: TextSize) -> Result<(), AllocError>
         ensures { OnOk result ((before : List FrontStep)
             → AreOf self.old.rows self.old.errors.items before
             → AreOf self.new.rows self.new.errors.items
-            (before ++ started kind is_token len ∷ [])) }
+            (before ++ started kind.kind kind.is_token len ∷ [])) }
     {
-        let event = if is_token {
-            BuilderEvent::Token(kind, len.raw() as usize)
-        } else {
-            BuilderEvent::Enter(kind)
-        };
-        self.add(event)
+        self.rows.start(kind, len.raw())
     }
 
     #[inline(always)]
@@ -66,8 +51,7 @@ impl TreeSink {
             → AreOf self.old.rows self.old.errors.items before
             → AreOf self.new.rows self.new.errors.items (before ++ ends ∷ [])) }
     {
-        self.rows.add(BuilderEvent::Exit)?;
-        Ok(())
+        self.rows.exit()
     }
 }
 
@@ -86,12 +70,12 @@ impl StepSink for TreeSink {
 
     #[inline(always)]
     fn start_node(&mut self, kind: SyntaxKind) -> Result<(), AllocError> {
-        self.start(kind, false, TextSize::new(0))
+        self.start(RowKind::node(kind), TextSize::new(0))
     }
 
     #[inline(always)]
     fn token(&mut self, kind: SyntaxKind, len: TextSize) -> Result<(), AllocError> {
-        self.start(kind, true, len)
+        self.start(RowKind::token(kind), len)
     }
 
     #[inline(always)]

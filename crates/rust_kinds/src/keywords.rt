@@ -24,7 +24,7 @@ pub(crate) fn is_2024(edition: Edition) -> bool
 // call.
 #[tactic(auto, using(crate::proofs::Words::lengths_first))]
 #[inline(always)]
-fn is(text: &str, word: &str) -> bool
+pub(crate) fn is(text: &str, word: &str) -> bool
     ensures { result ≡ bytes_eq text.now word.now }
 {
     text.len() == word.len() && text == word

@@ -5,6 +5,7 @@ pub mod RowSearch
 pub mod Walks
 pub mod Builder
 pub mod Run
+pub mod Heads
 pub mod Making
 pub mod RowEquality
 pub mod RowEqualityLaws

@@ -2,7 +2,7 @@
 --
 -- A list of rows with a number of 2^32 or more has a second list beside it: the high halves of its
 -- numbers. Without one the high halves are 0.
-use Rattle.std.specs.Prelude.{◌≡◌, ℕ, ◌+◌, ◌-◌, ◌*◌, ◌^◌, ◌/◌, ◌%◌, ◌⊎◌, Bool, List, [], ◌∷◌, length, map, take, drop, replicate, All, nat_lt, nat_le, if◌then◌else◌, slice_index_or, refl}
+use Rattle.std.specs.Prelude.{◌≡◌, ℕ, ◌+◌, ◌-◌, ◌*◌, ◌^◌, ◌/◌, ◌%◌, ◌⊎◌, Bool, List, [], ◌∷◌, length, get_or, map, take, drop, replicate, All, nat_lt, nat_le, if◌then◌else◌, slice_index_or, refl}
 use Rattle.std.proofs.Math.ListN.{set}
 use Rattle.std.specs.Coded.{Coded, code_by, coded_ℕ, coded_bool, coded_list, coded×}
 use Rattle.syntax_kind.specs.declared.syntax_kind.SyntaxKind.{SyntaxKind}
@@ -11,7 +11,7 @@ use Rattle.syntax_kind.specs.declared.syntax_kind.all.TheConstants.{KINDS}
 use Rattle.tree_rows.specs.declared.rows.Row.{Row}
 use Rattle.tree_rows.specs.declared.rows.High.{High}
 use Rattle.tree_rows.specs.declared.table.flat.FlatRow.{FlatRow}
-use Rattle.tree_rows.specs.Rows.{Columns}
+use Rattle.tree_rows.specs.Rows.{Columns, no_row}
 use Rattle.tree_rows.specs.Flat.{flat_kind}
 use Rattle.tree_model.specs.TreeCode.{kind_code}
 
@@ -77,6 +77,10 @@ high_between (h ∷ hs) a b = take (b - a) (drop a (h ∷ hs))
 abbrev pub with_row : Columns → ℕ → Slot → Columns
 with_row c n s = record { rows = set c.rows n (row_in s); parents = set c.parents n (parent_in s) }
 
+-- another end of row n
+abbrev pub with_end : Columns → ℕ → ℕ → Columns
+with_end c n e = record { rows = set c.rows n (record (get_or c.rows n no_row) { end = e }); parents = c.parents }
+
 -- rows with their parents as they cross to other languages
 abbrev pub flat_pairs : List Row → List ℕ → List FlatRow
 flat_pairs [] ps = []
@@ -87,9 +91,13 @@ flat_pairs (r ∷ rs) (p ∷ ps) =
 abbrev pub flat_columns : Columns → List FlatRow
 flat_columns c = flat_pairs c.rows c.parents
 
--- the number is that of its kind
+-- the number is that of a kind
+abbrev pub IsKindNumber : ℕ → Type 0
+IsKindNumber n = n ≡ flat_kind (kind_kept n) (token_kept n)
+
+-- a row has the number of its kind
 abbrev pub IsNumbered : FlatRow → Type 0
-IsNumbered f = f.kind ≡ flat_kind (kind_kept f.kind) (token_kept f.kind)
+IsNumbered f = IsKindNumber f.kind
 
 -- high halves are stored for all rows or for none
 abbrev pub StandBeside : List FlatRow → List High → Type 0

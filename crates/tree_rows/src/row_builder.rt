@@ -1,19 +1,20 @@
 //! Rows that are made as the steps of a tree come.
-ghost use Rattle.std.specs.Prelude.{◌≡◌, ◌<◌, ◌+◌, ◌^◌, List, [], ◌∷◌, None, filter_map, length, IfOk, IfSome, OnOk};
+ghost use Rattle.std.specs.Prelude.{◌≡◌, ◌<◌, ◌+◌, ◌^◌, List, [], ◌∷◌, filter_map, length, IfOk, OnOk};
 ghost use Rattle.tree_model.specs.Events.{BuildsNode};
 ghost use Rattle.tree_rows.specs.declared.builder_event.BuilderEvent.{BuilderEvent};
-ghost use Rattle.tree_rows.specs.declared.builder_event.BuilderEvent.TheVariants.{Enter, Token, Exit};
+ghost use Rattle.tree_rows.specs.declared.builder_event.BuilderEvent.TheVariants.{Exit};
 ghost use Rattle.tree_rows.specs.Builder.{events_from, IsOneTree};
+ghost use Rattle.tree_rows.specs.Heads.{step_of};
 ghost use Rattle.tree_rows.specs.Making.{after_step, run, nothing_made, MadeOf};
 ghost use Rattle.tree_rows.specs.Run.{text_len};
 
 use crate::builder_event::{BuilderEvent, TreeStep};
 use crate::kept::Kept;
-use crate::rows::{Row, Rows};
+use crate::row_kind::RowKind;
+use crate::rows::{HALF, Row, Rows};
 use crate::table::Table;
 use std::alloc::{AllocError, Global};
 use std::marker::Model;
-use syntax_kind::SyntaxKind;
 
 // A vector has fewer elements than this.
 const NO_ROOM: usize = 1 << 63;
@@ -30,6 +31,7 @@ pub struct RowBuilder {
 }
 
 impl Model for RowBuilder {
+    ghost use Rattle.tree_rows.specs.Heads.{step_of};
     ghost use Rattle.tree_rows.specs.Making.{Making, making, making_code};
 
     ghost Value = { Making };
@@ -51,48 +53,68 @@ impl RowBuilder {
         })
     }
 
-    // A node if there is no length, and else a token. `add` calls it once, so that the compiler
-    // puts `push` into it.
+    /// Takes one more step: a node of this kind begins, or a token of it has the next `len` bytes. It
+    /// ends before byte 2^32. The length of a node is not looked at. The only error is out of memory.
     #[inline(always)]
-    fn start(&mut self, kind: SyntaxKind, len: Option<usize>) -> Result<(), AllocError>
-        ensures node { len ≡ None → OnOk result (self.new ≡ after_step (Enter kind) self.old) }
-        ensures token { IfSome len (λ n. OnOk result
-            (self.old.at + n < 2 ^ 32 → self.new ≡ after_step (Token kind n) self.old)) }
+    pub fn start(&mut self, kind: RowKind, len: u32) -> Result<(), AllocError>
+        ensures { OnOk result (self.old.at + text_len (step_of kind len ∷ []) < 2 ^ 32
+            → self.new ≡ after_step (step_of kind len) self.old) }
     {
         let row = self.rows.len();
-        let end = match len {
-            None => 0,
-            Some(_) => row + 1,
-        };
+        let is_token = kind.is_token();
+        if row + 1 < HALF {
+            let end = if is_token { row as u32 + 1 } else { 0 };
+            if self.rows.push_low(kind, self.at, end, self.innermost) {
+                if is_token {
+                    self.at = self.at.wrapping_add(len);
+                } else {
+                    self.innermost = row;
+                }
+                return Ok(());
+            }
+        }
+        self.start_wide(kind, len)
+    }
+
+    // The same for a row that has no room yet, or with numbers of 2^32 or more.
+    #[cold]
+    #[inline(never)]
+    fn start_wide(&mut self, kind: RowKind, len: u32) -> Result<(), AllocError>
+        ensures { OnOk result (self.old.at + text_len (step_of kind len ∷ []) < 2 ^ 32
+            → self.new ≡ after_step (step_of kind len) self.old) }
+    {
+        let row = self.rows.len();
+        let is_token = kind.is_token();
+        let end = if is_token { row + 1 } else { 0 };
         // No list has room for so many.
         if end >= NO_ROOM {
             return Err(AllocError);
         }
         let added = Row {
-            kind,
-            is_token: len.is_some(),
+            kind: kind.kind(),
+            is_token,
             start: self.at,
             end,
         };
         self.rows.push(added, self.innermost)?;
-        match len {
-            None => self.innermost = row,
-            Some(len) => self.at = self.at.wrapping_add((len % (1 << 32)) as u32),
+        if is_token {
+            self.at = self.at.wrapping_add(len);
+        } else {
+            self.innermost = row;
         }
         Ok(())
     }
 
-    // No step of a tree leaves more nodes than were entered, so an exit always finds its node.
+    /// Takes one more step: the innermost open node ends; if none is open, nothing is changed. No step
+    /// of a tree ends more nodes than began. The only error is out of memory.
     #[inline(always)]
-    fn exit(&mut self) -> Result<(), AllocError>
+    pub fn exit(&mut self) -> Result<(), AllocError>
         ensures { OnOk result (self.new ≡ after_step Exit self.old) }
     {
         let row = self.innermost;
         let end = self.rows.len();
         if row < end {
-            let parent = self.rows.parent(row);
-            self.rows.set_end(row, end)?;
-            self.innermost = parent;
+            self.innermost = self.rows.close(row)?;
         }
         Ok(())
     }
@@ -103,12 +125,13 @@ impl RowBuilder {
         ensures { OnOk result (self.old.at + text_len (event ∷ []) < 2 ^ 32
             → self.new ≡ after_step event self.old) }
     {
-        let (kind, len) = match event {
-            BuilderEvent::Enter(kind) => (kind, None),
-            BuilderEvent::Token(kind, len) => (kind, Some(len)),
-            BuilderEvent::Exit => return self.exit(),
-        };
-        self.start(kind, len)
+        match event {
+            BuilderEvent::Enter(kind) => self.start(RowKind::node(kind), 0),
+            BuilderEvent::Token(kind, len) => {
+                self.start(RowKind::token(kind), (len % (1 << 32)) as u32)
+            }
+            BuilderEvent::Exit => self.exit(),
+        }
     }
 
     /// Takes further steps, whose tokens have fewer than 2^32 bytes with those before.

@@ -1,13 +1,14 @@
 //! Rows, in 16 bytes each, in the form that crosses to other languages.
 ghost use Rattle.std.specs.Cmp.Lexicographic.{pointwise};
-ghost use Rattle.std.specs.Prelude.{ℕ, ◌≡◌, ◌==◌, ◌<◌, ◌≤◌, ◌+◌, ◌-◌, ◌/◌, ◌%◌, ◌^◌, ◌++◌, ◌⊎◌, [], length, get_or, IfOk, IfSome, OnOk, OnErr};
+ghost use Rattle.std.specs.Prelude.{ℕ, ◌≡◌, ◌==◌, ◌<◌, ◌≤◌, ◌+◌, ◌-◌, ◌/◌, ◌%◌, ◌^◌, ◌++◌, ◌⊎◌, [], length, get_or, IfOk, IfSome, OnOk, OnErr, IsTrue, IsFalse};
 ghost use Rattle.std.proofs.Math.ListN.{set};
 ghost use Rattle.syntax_kind.specs.Kinds.{kind_raw};
 ghost use Rattle.tree_rows.specs.Flat.{flat_kind};
 ghost use Rattle.tree_rows.specs.Rows.{no_row, no_rows, one_row, joined};
-ghost use Rattle.tree_rows.specs.Stored.{kind_numbered, kind_kept, token_kept, no_high, high_of, high_between, slot, row_in, parent_in, with_row, flat_columns, IsNumbered};
+ghost use Rattle.tree_rows.specs.Stored.{kind_numbered, kind_kept, token_kept, no_high, high_of, high_between, slot, row_in, parent_in, with_row, with_end, flat_columns, IsNumbered};
 ghost use Rattle.tree_rows.specs.MovedRows.{cut_of, moved_row, moved_number, moved_from, MoveFits, NumberFits};
 
+use crate::row_kind::{RowKind, TOKEN};
 use crate::shift::Shift;
 use crate::table::FlatRow;
 use std::alloc::{AllocError, Global};
@@ -36,11 +37,8 @@ pub struct High {
 
 const NO_HIGH: High = High { end: 0, parent: 0 };
 
-// What is added to the number of a token's kind.
-const TOKEN: u32 = 2_147_483_648;
-
 // The first number that does not fit in 32 bits.
-const HALF: usize = 4_294_967_296;
+pub(crate) const HALF: usize = 4_294_967_296;
 
 // The number of the kind `OTHER`.
 fn other_number(number: u16) -> u32
@@ -50,6 +48,7 @@ fn other_number(number: u16) -> u32
     65_536 + number as u32
 }
 
+#[inline(always)]
 fn raw_number(kind: SyntaxKind) -> u32
     ensures raw { result ≡ kind_raw kind }
     ensures kind { kind_numbered result ≡ kind }
@@ -63,6 +62,7 @@ fn raw_number(kind: SyntaxKind) -> u32
 }
 
 /// The number of a kind, and for a token `TOKEN` more.
+#[inline(always)]
 pub(crate) fn kind_number(kind: SyntaxKind, is_token: bool) -> u32
     ensures number { result ≡ flat_kind kind is_token }
     ensures kind { kind_kept result ≡ kind }
@@ -74,7 +74,7 @@ pub(crate) fn kind_number(kind: SyntaxKind, is_token: bool) -> u32
 
 // The kind with a stored number.
 #[inline(always)]
-fn kind_of(number: u32) -> SyntaxKind
+pub(crate) fn kind_of(number: u32) -> SyntaxKind
     ensures { result ≡ kind_kept number }
 {
     let raw = number % TOKEN;
@@ -232,6 +232,33 @@ impl Rows {
         parent as usize * HALF + self.flat[n].parent as usize
     }
 
+    /// Appends a row and the number of its parent if there is room and no number needs a high half.
+    /// Returns whether it did; if not, nothing is changed.
+    ///
+    /// Nearly all rows of a parse are written so, without a call; [`Rows::push`] takes the others.
+    #[inline(always)]
+    pub(crate) fn push_low(&mut self, kind: RowKind, start: u32, end: u32, parent: usize) -> bool
+        ensures pushed { IsTrue result → self.new ≡ joined self.old (one_row (record {
+          kind = kind.kind;
+          is_token = kind.is_token;
+          start = start;
+          end = end;
+        }) parent) }
+        ensures left { IsFalse result → self.new ≡ self.old }
+    {
+        if self.flat.len() < self.flat.capacity() && parent < HALF && self.high.is_empty() {
+            self.flat.push_reserved(FlatRow {
+                kind: kind.number,
+                start,
+                subtree_end: end,
+                parent: low_half(parent),
+            });
+            true
+        } else {
+            false
+        }
+    }
+
     /// Appends a row and the number of its parent; if memory runs out, nothing is changed.
     #[inline(always)]
     pub(crate) fn push(&mut self, row: Row, parent: usize) -> Result<(), AllocError>
@@ -323,15 +350,46 @@ impl Rows {
         Ok(())
     }
 
-    /// Sets the end of row `n`.
-    pub(crate) fn set_end(&mut self, n: usize, end: usize) -> Result<(), AllocError>
+    /// Ends row `n` behind the last row, and gives the number of its parent.
+    #[inline(always)]
+    pub(crate) fn close(&mut self, n: usize) -> Result<usize, AllocError>
+        requires { n < length self.old.rows }
+        ensures ended { OnOk result (self.new ≡ with_end self.old n (length self.old.rows)) }
+        ensures parent { IfOk result (λ p. p ≡ get_or self.old.parents n 0) }
+    {
+        let end = self.flat.len();
+        if self.high.is_empty() && end < HALF {
+            let flat = self.flat[n];
+            self.flat[n] = FlatRow {
+                kind: flat.kind,
+                start: flat.start,
+                subtree_end: low_half(end),
+                parent: flat.parent,
+            };
+            return Ok(flat.parent as usize);
+        }
+        self.close_wide(n)
+    }
+
+    // The same for a list with high halves, or that gets them now.
+    #[cold]
+    #[inline(never)]
+    fn close_wide(&mut self, n: usize) -> Result<usize, AllocError>
+        requires { n < length self.old.rows }
+        ensures ended { OnOk result (self.new ≡ with_end self.old n (length self.old.rows)) }
+        ensures parent { IfOk result (λ p. p ≡ get_or self.old.parents n 0) }
+    {
+        let parent = self.parent(n);
+        let end = self.len();
+        self.set_end(n, end)?;
+        Ok(parent)
+    }
+
+    // Sets the end of row `n`.
+    fn set_end(&mut self, n: usize, end: usize) -> Result<(), AllocError>
         requires is_row { n < length self.old.rows }
         requires fits { end < 2 ^ 63 }
-        ensures { OnOk result (self.new
-            ≡ record self.old {
-              rows
-                  = set self.old.rows n (record (get_or self.old.rows n no_row) { end = end });
-            }) }
+        ensures { OnOk result (self.new ≡ with_end self.old n end) }
     {
         let flat = self.flat[n];
         let high = High {

@@ -1,17 +1,27 @@
-use Rattle.std.proofs.Common.{ap, ◌∙◌, sym}
-use Rattle.grammar_machine.specs.Running.{tables_of, is_brace_of}
-use Rattle.grammar_machine.proofs.Hiding.{hides-none, hides-more, hides-behind}
+use Rattle.std.proofs.Common.{◌≡◌, ◌<◌, ap, sym, ◌∙◌, arith}
+use Rattle.grammar_machine.specs.declared.grammar.View.TheVariants.{One}
+use Rattle.grammar_machine.specs.Running.{tables_of, further_of, seen_at_of, is_brace_of, hides_of}
+use Rattle.grammar_machine.proofs.Hiding.{hides-none, hides-one, hides-behind}
 use Rattle.grammar_machine.proofs.grammar.Grammar.hides.Goals as goal
 
-pub loop-i-init : goal.loop-i-init
-loop-i-init c = hides-none (tables_of c.args.self.now) c.args.sights.now c.args.at
+pub returns-then-ahead-eq0 : goal.returns-then-ahead-eq0
+returns-then-ahead-eq0 c =
+    let g = tables_of c.args.self.now in
+    sym (ap (hides_of g c.args.sights.now c.args.at) c.if-ahead-eq0.true ∙ hides-none g c.args.sights.now c.args.at)
 
 pub returns-then-is_brace : goal.returns-then-is_brace
 returns-then-is_brace c =
     let g = tables_of c.args.self.now in
-    sym (hides-behind g c.args.sights.now c.args.at c.args.ahead c.loop-i.i c.loop-i-test.true (sym (c.is_brace.ensures ∙ ap (is_brace_of g) c.kind_at.ensures) ∙ c.if-is_brace.true))
+    let ts = c.args.sights.now in
+    let here : further_of c.args.at 0 ≡ c.args.at = omega (arith, c.ranges.at.fits) in
+    let some : 0 < c.args.ahead = omega (arith, c.if-ahead-eq0.false) in
+    sym (hides-behind g ts c.args.at c.args.ahead 0 some
+    (sym (c.is_brace.ensures ∙ ap (is_brace_of g) (c.kind_at.ensures ∙ ap (seen_at_of ts One) (sym here))) ∙ c.if-is_brace.true))
 
-pub loop-i-preserved : goal.loop-i-preserved
-loop-i-preserved c =
+pub returns-then-ahead-eq1 : goal.returns-then-ahead-eq1
+returns-then-ahead-eq1 c =
     let g = tables_of c.args.self.now in
-    hides-more g c.args.sights.now c.args.at c.loop-i.i c.loop-i.invariant (sym (c.is_brace.ensures ∙ ap (is_brace_of g) c.kind_at.ensures) ∙ c.if-is_brace.false)
+    let ts = c.args.sights.now in
+    let here : further_of c.args.at 0 ≡ c.args.at = omega (arith, c.ranges.at.fits) in
+    sym (ap (hides_of g ts c.args.at) c.if-ahead-eq1.true ∙ hides-one g ts c.args.at
+    ∙ sym (c.is_brace.ensures ∙ ap (is_brace_of g) (c.kind_at.ensures ∙ ap (seen_at_of ts One) (sym here))) ∙ c.if-is_brace.false)
