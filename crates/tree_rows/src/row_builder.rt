@@ -53,8 +53,9 @@ impl RowBuilder {
         })
     }
 
-    /// Takes one more step: a node of this kind begins, or a token of it has the next `len` bytes. It
-    /// ends before byte 2^32. The length of a node is not looked at. The only error is out of memory.
+    /// Takes one more step: a node of this kind begins, or a token of it has the next `len` bytes.
+    /// It ends before byte 2^32. The length of a node is not looked at. The only error is out of
+    /// memory.
     #[inline(always)]
     pub fn start(&mut self, kind: RowKind, len: u32) -> Result<(), AllocError>
         ensures { OnOk result (self.old.at + text_len (step_of kind len ∷ []) < 2 ^ 32
@@ -105,8 +106,8 @@ impl RowBuilder {
         Ok(())
     }
 
-    /// Takes one more step: the innermost open node ends; if none is open, nothing is changed. No step
-    /// of a tree ends more nodes than began. The only error is out of memory.
+    /// Takes one more step: the innermost open node ends; if none is open, nothing is changed. No
+    /// step of a tree ends more nodes than began. The only error is out of memory.
     #[inline(always)]
     pub fn exit(&mut self) -> Result<(), AllocError>
         ensures { OnOk result (self.new ≡ after_step Exit self.old) }
