@@ -58,7 +58,7 @@ fn report<G: Language>(
     Ok(Step::Error(position, Box::new(alloc, message)?))
 }
 
-#[tactic(auto, using(token_layout::proofs::Push::front_steps_push))]
+#[tactic(auto, using(ras_front_end::proofs::Steps::pushed))]
 fn add(steps: &mut Vec<Step>, step: Step) -> Result<(), AllocError>
     ensures { OnOk result
         (front_steps steps.new.items ≡ front_steps steps.old.items ++ front_step step ∷ []) }

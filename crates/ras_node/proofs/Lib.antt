@@ -1,3 +1,4 @@
 pub mod FirstCast
+pub mod NodeWalks
 pub mod Steps
 pub mod ViewLists

@@ -1,26 +1,25 @@
 -- What is sought is in a node where the node is it, or where one of its open operands has it.
-use Rattle.std.proofs.Common.{◌≡◌, ℕ, zero, suc, ◌+◌, ◌≤◌, ◌<◌, ◌++◌, Bool, true, false, ◌&&◌, ◌||◌, cond, List, [], ◌∷◌, map, length, Option, Some, None, refl, sym, ap, subst, ◌∙◌, arith}
-use Rattle.std.proofs.lemmas.List.{append-nil}
-use Rattle.std.specs.Prelude.{if◌then◌else◌, slice_get, ⊤}
-use Rattle.std.specs.List.{filter, find, list_any, range_with_len}
+use Rattle.std.proofs.Common.{◌≡◌, ℕ, zero, suc, ◌+◌, ◌≤◌, ◌<◌, ◌++◌, Bool, true, false, ◌&&◌, ◌||◌, cond, List, [], ◌∷◌, length, Option, Some, None, refl, sym, ap, subst, ◌∙◌, arith}
+use Rattle.std.specs.Prelude.{slice_get, ⊤}
+use Rattle.std.specs.List.{filter, find, list_any}
 use Rattle.syntax_kind.specs.declared.syntax_kind.SyntaxKind.{SyntaxKind}
 use Rattle.syntax_kind.specs.declared.syntax_kind.SyntaxKind.TheVariants.{Node}
 use Rattle.syntax_kind.specs.declared.syntax_kind.node_kind.NodeKind.TheVariants as kind
-use Rattle.tree_model.specs.Tree.{Tree, node, token, Forest, nil, cons, is_node, child_count, forest_of_children, places, places_from}
-use Rattle.tree_model.specs.Cursor.{Cursor, focus, at_place, at_node, parent_of, ancestors_of, ancestors_from, children_of, descendants_of}
+use Rattle.tree_model.specs.Tree.{Tree, node, token, Forest, nil, cons, is_node, child_count, forest_of_children}
+use Rattle.tree_model.specs.Cursor.{Cursor, focus, at_node, parent_of, ancestors_of, children_of, descendants_of}
 use Rattle.tree_model.specs.Equality.{is_same_cursor}
 use Rattle.tree_model.specs.EqualityLaws.{cursor_Decides}
-use Rattle.tree_model.proofs.AncestorLemmas.{ancestors_of-step}
 use Rattle.ras_node.specs.Lookups.{second_typed_child}
-use Rattle.ras_node.specs.Nodes.{kind_at, has_kind_in, is_of_kind, typed_child, typed_children}
+use Rattle.ras_node.specs.Nodes.{kind_at, has_kind_in, is_of_kind, typed_child}
 use Rattle.ras_node.specs.Sets.{is_expr}
+use Rattle.ras_node.proofs.NodeWalks.{child, Children, first_child, more_children, children_are, itself, deeper, child_deep, nodes, descendants_told}
 use Rattle.ras_prec_walks.specs.declared.inside.Sought.{Sought}
 use Rattle.ras_prec_walks.specs.declared.inside.Sought.TheVariants.{Record, Let}
 use Rattle.ras_prec_walks.specs.Along.{passes}
-use Rattle.ras_prec_walks.specs.Inside.{is_base, is_side, is_operand, opens, is_step, lacks_side, is_sought, leads_up, is_open, holds, has_exterior_record, has_let, side_passes, operand_passes}
+use Rattle.ras_prec_walks.specs.Inside.{is_base, is_side, is_operand, opens, is_step, lacks_side, is_sought, leads_up, holds, has_exterior_record, has_let, side_passes, operand_passes}
 use Rattle.ras_prec_walks.specs.Parts.{is_it, is_and}
-use Rattle.ras_prec_walks.proofs.Operands.{child, Children, children_from, first_child, more_children, children_are}
-use Rattle.ras_prec_walks.proofs.PassedOver.{below, nodes, nodes_told, holds-append, itself, deeper, child_deep, child_parent, child_leads}
+use Rattle.ras_prec_walks.proofs.Operands.{children_from}
+use Rattle.ras_prec_walks.proofs.PassedOver.{holds-append, child_parent, child_leads, top_leads}
 
 -- ---- below a child one goes up to the top by way of the child
 
@@ -80,23 +79,9 @@ held_by s top u d j (cons (node k c) r) b h g e =
 abbrev has : Sought → Cursor → Bool
 has s c = holds s c (filter at_node (descendants_of c))
 
-nodes_of : (top : Cursor) (k : SyntaxKind) (c : Forest) → focus top ≡ node k c → filter at_node (descendants_of top) ≡ top ∷ nodes top 0 c
-nodes_of top k c e =
-    let others : List Cursor = map (below top) (places_from 0 c) in
-    let P : Tree → Type 0 = λ v. Children top 0 (forest_of_children v) in
-    let kids : Children top 0 c = subst P e (children_are top) in
-    let start : below top [] ≡ top = ap (at_place top) (append-nil top.place) in
-    ap (λ t. filter at_node (map (below top) (places t))) e
-    ∙ ap (λ x. cond (at_node x) (x ∷ filter at_node others) (filter at_node others)) start
-    ∙ ap (λ u. cond (is_node u) (top ∷ filter at_node others) (filter at_node others)) e
-    ∙ ap (λ l. top ∷ l) (nodes_told top 0 c kids)
-
-top_leads : (s : Sought) (top : Cursor) → leads_up s top (ancestors_of top) ≡ true
-top_leads s top = ap (leads_up s top) (ancestors_of-step top) ∙ ap (λ b. b || (is_step s top (parent_of top) && leads_up s top (ancestors_from (parent_of top)))) (itself top)
-
 has_so : (s : Sought) (top : Cursor) (k : SyntaxKind) (c : Forest) → focus top ≡ node k c → has s top ≡ is_sought s top || holds s top (nodes top 0 c)
 has_so s top k c e =
-    ap (holds s top) (nodes_of top k c e)
+    ap (holds s top) (descendants_told top k c e)
     ∙ ap (λ b. (is_sought s top && b) || holds s top (nodes top 0 c)) (top_leads s top)
     ∙ plain (is_sought s top) (holds s top (nodes top 0 c))
   where

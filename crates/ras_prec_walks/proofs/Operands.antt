@@ -4,14 +4,14 @@ use Rattle.std.proofs.Common.{◌≡◌, ℕ, suc, ◌+◌, ◌++◌, Bool, true
 use Rattle.std.specs.Prelude.{if◌then◌else◌, is_some}
 use Rattle.std.specs.List.{filter, find, range_with_len}
 use Rattle.syntax_kind.specs.declared.syntax_kind.SyntaxKind.{SyntaxKind}
-use Rattle.tree_model.specs.Tree.{Tree, node, token, Forest, nil, cons, kind_of, child_at, child_count, forest_of_children}
+use Rattle.tree_model.specs.Tree.{Tree, node, token, Forest, nil, cons, kind_of, child_count, forest_of_children}
 use Rattle.tree_model.specs.Cursor.{Cursor, focus, at_place, at_node, children_of}
-use Rattle.tree_model.proofs.EveryLaws.{subtree-append}
 use Rattle.ras_node.specs.Lookups.{second_typed_child}
 use Rattle.ras_node.specs.Nodes.{kind_at, has_kind_in}
 use Rattle.ras_node.specs.PartSets.{is_range_operator}
 use Rattle.ras_node.specs.Searches.{behind, first_node, is_token_in}
 use Rattle.ras_node.specs.Sets.{is_expr}
+use Rattle.ras_node.proofs.NodeWalks.{child, Children, first_child, more_children, children_are}
 use Rattle.ras_prec_walks.specs.declared.along.Meant.{Meant}
 use Rattle.ras_prec_walks.specs.declared.along.Meant.TheVariants.{First, Second, BehindDots}
 use Rattle.ras_prec_walks.specs.declared.along.Toward.{Toward}
@@ -106,9 +106,6 @@ loop_told w test each BehindDots (cons (node k c) r) = loop_told w test each Beh
 
 -- ---- the same among cursors
 
-abbrev pub child : Cursor → ℕ → Cursor
-child d i = at_place d (d.place ++ i ∷ [])
-
 -- n children of a node, from number k on
 abbrev pub children_from : Cursor → ℕ → ℕ → List Cursor
 children_from d k n = map (at_place d) (map (λ i. d.place ++ i ∷ []) (range_with_len k n))
@@ -159,15 +156,6 @@ dots_step test x l = by (is_token_in is_range_operator x)
     by true = refl
     by false = refl
 
-abbrev pub Children : Cursor → ℕ → Forest → Type 0
-Children d k f = (j : ℕ) → focus (child d (k + j)) ≡ child_at f j
-
-pub first_child : (d : Cursor) (k : ℕ) (u : Tree) (r : Forest) → Children d k (cons u r) → focus (child d k) ≡ u
-first_child d k u r same = let first : k ≡ k + 0 = omega arith in ap (λ i. focus (child d i)) first ∙ same 0
-
-pub more_children : (d : Cursor) (k : ℕ) (u : Tree) (r : Forest) → Children d k (cons u r) → Children d (suc k) r
-more_children d k u r same j = let later : suc k + j ≡ k + suc j = omega arith in ap (λ i. focus (child d i)) later ∙ same (suc j)
-
 found_among : (test : Tree → Bool) (m : Meant) (d : Cursor) (k : ℕ) (f : Forest) → Children d k f → passes (λ c. test (focus c)) (meant_in m (children_from d k (child_count f))) ≡ meant_holds test m f
 found_among test First d k nil same = refl
 found_among test Second d k nil same = refl
@@ -192,9 +180,6 @@ found_among test BehindDots d k (cons u r) same =
     ∙ ap (λ i. if is_dots u then passes (λ c. test (focus c)) (meant_in First (children_from d i (child_count r))) else passes (λ c. test (focus c)) (meant_in BehindDots (children_from d i (child_count r)))) on
     ∙ ap (λ b. if is_dots u then b else passes (λ c. test (focus c)) (meant_in BehindDots (children_from d (suc k) (child_count r)))) (found_among test First d (suc k) r (more_children d k u r same))
     ∙ ap (λ b. if is_dots u then meant_holds test First r else b) (found_among test BehindDots d (suc k) r (more_children d k u r same))
-
-pub children_are : (d : Cursor) → Children d 0 (forest_of_children (focus d))
-children_are d j = let here : 0 + j ≡ j = omega arith in ap (λ i. focus (child d i)) here ∙ subtree-append d.tree d.place (j ∷ [])
 
 meant_told : (test : Tree → Bool) (m : Meant) (d : Cursor) → passes (λ c. test (focus c)) (meant_child m d) ≡ meant_holds test m (forest_of_children (focus d))
 meant_told test First d = found_among test First d 0 (forest_of_children (focus d)) (children_are d)

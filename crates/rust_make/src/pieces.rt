@@ -14,6 +14,7 @@ pub(crate) struct Pieces<'p> {
 }
 
 impl<'p> Pieces<'p> {
+    /// No pieces. It takes no memory.
     pub fn new(alloc: Global) -> Pieces<'p>
         ensures { bits_of result.items.items ≡ [] }
     {
@@ -22,6 +23,7 @@ impl<'p> Pieces<'p> {
         }
     }
 
+    /// Appends a fixed text, which may be empty. It fails only if memory runs out.
     pub fn text(&mut self, text: &'p str) -> Result<(), AllocError>
         ensures { OnOk result
             (bits_of self.new.items.items ≡ bits_of self.old.items.items ++ fixed text.now ∷ []) }
@@ -30,6 +32,8 @@ impl<'p> Pieces<'p> {
         Ok(())
     }
 
+    /// Appends a node of any tree, which stands in the form by its text and gets no parentheses.
+    /// The node is borrowed, not copied. It fails only if memory runs out.
     pub fn part<N: AstNode>(&mut self, node: &'p N) -> Result<(), AllocError>
         ensures { OnOk result (bits_of self.new.items.items
             ≡ bits_of self.old.items.items ++ part (N.node node.now) ∷ []) }
@@ -38,6 +42,8 @@ impl<'p> Pieces<'p> {
         Ok(())
     }
 
+    /// Appends an operand, which gets a pair of parentheses where the form needs one: the first
+    /// operand of a form, or its only one. It fails only if memory runs out.
     pub fn left<N: AstNode>(&mut self, node: &'p N) -> Result<(), AllocError>
         ensures { OnOk result (bits_of self.new.items.items
             ≡ bits_of self.old.items.items ++ left (N.node node.now) ∷ []) }
@@ -46,7 +52,10 @@ impl<'p> Pieces<'p> {
         Ok(())
     }
 
-    // A node behind a text, if there is one.
+    /// Appends a text and a node behind it, or nothing for `None`.
+    ///
+    /// If memory runs out, the text may be appended without the node, so the pieces are of no
+    /// further use.
     pub fn optional<N: AstNode>(
         &mut self,
         before: &'p str,
@@ -65,7 +74,9 @@ impl<'p> Pieces<'p> {
         }
     }
 
-    // Nodes, each between two texts.
+    /// Appends nodes in order, each between two texts; nothing if there are none.
+    ///
+    /// If memory runs out, some of them may be appended, so the pieces are of no further use.
     pub fn each<N: AstNode>(
         &mut self,
         before: &'p str,
@@ -84,7 +95,10 @@ impl<'p> Pieces<'p> {
         Ok(())
     }
 
-    // Nodes with a text between any two.
+    /// Appends nodes in order, with a text between any two: no text for a single node, and nothing
+    /// if there are none.
+    ///
+    /// If memory runs out, some of them may be appended, so the pieces are of no further use.
     pub fn separated<N: AstNode>(
         &mut self,
         nodes: &'p [N],

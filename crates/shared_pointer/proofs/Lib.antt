@@ -1,3 +1,4 @@
+pub mod BySelf
 pub mod SharedBlock
 pub mod SharedInvariant
 pub mod SharedLending

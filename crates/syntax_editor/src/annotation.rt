@@ -33,7 +33,8 @@ impl Model for Note {
 }
 
 impl Note {
-    // The note that a place has an annotation.
+    /// The note that the element at a place has an annotation. An element may have several notes,
+    /// and an annotation may be on several elements.
     pub fn new(annotation: SyntaxAnnotation, place: Place) -> Note
         ensures { result
             ≡ record { annotation = annotation.number; cursor = cursor_of_spot place } }
@@ -44,14 +45,15 @@ impl Note {
         }
     }
 
-    // Whether it is one of an annotation.
+    /// Whether the note is one of this annotation. Only the number is compared, so the annotation
+    /// has to be one of the same editor.
     pub fn has(&self, annotation: SyntaxAnnotation) -> bool
         ensures { IsTrue result ↔ (self.now.annotation ≡ annotation.number) }
     {
         self.annotation == annotation.number
     }
 
-    // The place.
+    /// The place of the element, in the tree as it was before the changes.
     pub fn place(&self) -> &Place
         ensures { cursor_of_spot result.now ≡ self.now.cursor }
     {

@@ -33,7 +33,7 @@ impl Model for Place {
 }
 
 impl Place {
-    // Where a node is.
+    /// The place of a node. It keeps the node's whole tree alive, and copies nothing of it.
     pub fn of_node(node: &SyntaxNode) -> Place
         ensures spot { result ≡ spot_of node.now }
         ensures cursor { cursor_at result.tree result.row ≡ node.now }
@@ -44,7 +44,7 @@ impl Place {
         }
     }
 
-    // Where a token is.
+    /// The place of a token. It keeps the token's whole tree alive, and copies nothing of it.
     pub fn of_token(token: &SyntaxToken) -> Place
         ensures spot { result ≡ spot_of token.now }
         ensures cursor { cursor_at result.tree result.row ≡ token.now }
@@ -55,7 +55,7 @@ impl Place {
         }
     }
 
-    // Where an element is.
+    /// The place of a node or token, as [`Place::of_node`] and [`Place::of_token`] give it.
     pub fn of(element: &SyntaxElement) -> Place
         ensures spot { result ≡ spot_of (cursor_of element.now) }
         ensures cursor { cursor_at result.tree result.row ≡ cursor_of element.now }
@@ -66,14 +66,14 @@ impl Place {
         }
     }
 
-    // The table of the whole tree.
+    /// The table of the whole tree, which need not be the tree that an editor changes.
     pub fn table(&self) -> &Shared<Table>
         ensures { result.now.value ≡ self.now.tree }
     {
         &self.table
     }
 
-    // The row.
+    /// The row in [`Place::table`]: 0 for the root, and always below the number of rows.
     pub fn row(&self) -> usize
         ensures value { result ≡ self.now.row }
         ensures is_row { result < size self.now.tree }

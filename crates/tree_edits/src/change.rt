@@ -47,6 +47,7 @@ impl Model for RowChange {
 }
 
 impl RowChange {
+    /// No change. It takes no memory.
     pub fn new(alloc: Global) -> RowChange
         ensures { result ≡ no_change }
     {
@@ -104,7 +105,10 @@ impl RowChange {
         self.replaced = true;
     }
 
-    // Appends what entering the row adds.
+    /// Appends the steps that stand where `row`, which has this change, is entered: those of the
+    /// elements before it, and then of the row itself and of the new first children; or, if the
+    /// row is replaced, of the elements in its place. It fails only if memory runs out; `out` may
+    /// then have some of the steps.
     pub fn push_entered(&self, out: &mut Steps, table: &Table, row: usize) -> Result<(), AllocError>
         requires { row < size table.now }
         ensures { OnOk result (out.new ≡ out.old ++ entered self.now (tree_at table.now row)) }
@@ -117,7 +121,10 @@ impl RowChange {
         push_inside(out, table, row, self.first.as_slice())
     }
 
-    // Appends what leaving the row adds, where it is not replaced.
+    /// Appends the steps that stand where `row`, which has this change, is left: those of the new
+    /// last children, of leaving the row, and of the elements after it. It is not for a row that
+    /// is replaced, which is never left. It fails only if memory runs out; `out` may then have
+    /// some of the steps.
     pub fn push_left(&self, out: &mut Steps, table: &Table, row: usize) -> Result<(), AllocError>
         requires { row < size table.now }
         ensures { OnOk result (out.new ≡ out.old ++ left self.now (tree_at table.now row)) }
@@ -153,7 +160,8 @@ pub(crate) struct RowChanges {
 }
 
 impl RowChanges {
-    // No changes of so many rows.
+    /// No change at any of `count` rows. It takes memory for one number a row, and fails only if
+    /// that runs out.
     pub fn new(alloc: Global, count: usize) -> Result<RowChanges, AllocError>
         ensures { IfOk result
             (λ all. (length all.marks.items ≡ count) × (length all.changes.items ≡ 0)) }
@@ -182,7 +190,8 @@ impl RowChanges {
         }
     }
 
-    // Whether something is changed at a row.
+    /// Whether something is changed at a row. A row to which an empty list of elements was added
+    /// is not changed, unless that replaced it.
     pub fn is_changed(&self, row: usize) -> bool
         requires { row < length self.now.marks.items }
         ensures { IsFalse result
@@ -194,7 +203,9 @@ impl RowChanges {
         }
     }
 
-    // Whether a child is put into the element at a row.
+    /// Whether a child is put into the element at a row, as its first or its last one. Elements
+    /// before, after or in the place of the row's children are changes of their rows, and do not
+    /// count.
     pub fn has_new_child(&self, row: usize) -> bool
         requires { row < length self.now.marks.items }
         ensures { IsFalse result
@@ -206,7 +217,7 @@ impl RowChanges {
         }
     }
 
-    // Whether the element at a row is replaced.
+    /// Whether the element at a row is replaced. One that is deleted is replaced by nothing.
     pub fn is_replaced(&self, row: usize) -> bool
         requires { row < length self.now.marks.items }
         ensures { result ≡ (change_at self.now.marks.items self.now.changes.items row).replaced }
@@ -295,8 +306,11 @@ impl RowChanges {
         }
     }
 
-    // Puts elements in the place of the element at a row, and deletes those at others; if memory
-    // runs out, each row has the change that it had.
+    /// Puts elements in the place of the element at the row `first`, and deletes those at
+    /// `others`. With no elements, `first` is deleted too. An earlier change of these rows is
+    /// kept: the elements come behind those that are already in the place of `first`.
+    ///
+    /// If memory runs out, each row has the change that it had.
     pub fn replace_run(
         &mut self,
         alloc: Global,
@@ -320,7 +334,10 @@ impl RowChanges {
         Ok(())
     }
 
-    // Adds elements at a row; if memory runs out, each row has the change that it had.
+    /// Adds elements at a row, behind those that are already in the same slot. In
+    /// [`Slot::Instead`] an empty list deletes the element, and elsewhere it changes nothing.
+    ///
+    /// If memory runs out, each row has the change that it had.
     pub fn add(
         &mut self,
         alloc: Global,

@@ -41,6 +41,7 @@ impl Model for Steps {
 }
 
 impl Steps {
+    /// No steps. It takes no memory.
     pub fn new(alloc: Global) -> Self
         ensures { result ≡ [] }
     {

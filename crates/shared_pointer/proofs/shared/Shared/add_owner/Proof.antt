@@ -2,15 +2,14 @@
 -- gives a ticket either way.
 use mathlib.Core.Path.{◌≡◌, refl, sym, ap}
 use mathlib.Core.Bool.{true, false}
-use mathlib.Core.List.{List, [], ◌∷◌}
-use Prim.Native.Nat.{ℕ, ◌+◌, ◌<◌, ◌^◌}
+use mathlib.Core.List.{[], ◌∷◌}
+use Prim.Native.Nat.{◌+◌, ◌<◌, ◌^◌}
 use native.Mathlib.Omega.{arith}
 use seplogic.Ra.Ura.{Ura}
-use mir.Syntax.{Fn, Sym, named}
+use mir.Syntax.{Fn, named}
 use mir.MapTy.{inst_fn}
-use mir.Val.{Val, vptr}
 use base.Logic.{emp, SProp, ent, id⊢}
-use base.Fml.{Lft, Share, ftrue, fsep, flft, fhide, ftok}
+use base.Fml.{fsep, flft, fhide, ftok}
 use base.Mask.{every}
 use prog.Memory.{Memory}
 use prog.Routine.{Routine}
@@ -24,21 +23,21 @@ use types.ByLocal.{alloc_all, pass_all, free_all, look_at, get, through, sets, i
 use denote.Builtin.{RefOf}
 use denote.Exit.{yes}
 use denote.Memory.{hidden_shr}
-use denote.RattleType.{RattleType, owns}
-use denote.RawPtr.{Ptr, ptr_val}
+use denote.RattleType.{owns}
+use denote.RawPtr.{ptr_val}
 use denote.Ref.{shr_vals, shr_Tells}
 use denote.Signature.{types_at, plain}
 use denote.Steps.{nothing}
 use denote.Triple.Clauses.{Clauses, Ended}
-use denote.Triple.Walked.{says, Stays, stay_dropped, walk_of, walked, ends_at, Goes-dropped}
-use Rattle.std.proofs.BoxSteps.Form.{Bx, args, X, R, P}
+use denote.Triple.Walked.{says, walk_of, walked, ends_at, Goes-dropped}
+use Rattle.std.proofs.BoxSteps.Form.{Bx, args}
 use Rattle.std.proofs.RcSteps.{is_not, is_so, word, word-Good, word_made, Word}
 use Rattle.std.proofs.VecSteps.Shapes.{after}
 use Rattle.shared_pointer.specs.SharedOwnership.{full_count}
 use Rattle.shared_pointer.proofs.Turns.{with_turn, tables_with_turn, meets_in_turn}
 use Rattle.shared_pointer.proofs.SharedBlock.{Lent, Owned}
 use Rattle.shared_pointer.proofs.SharedSteps.{borrow_opened, borrow_shut, count_opened, count_shut, one_more, one_more_at_full, owner_joined}
-use Rattle.shared_pointer.specs.contracts.shared.Shared as SH
+use Rattle.shared_pointer.proofs.BySelf.{Row, ν, by_self, stayed, begun}
 use Rattle.shared_pointer.specs.contracts.shared.Shared.add_owner as F
 use Rattle.shared_pointer.specs.contracts.shared.Shared.add_owner.Key.{name as #self}
 use Rattle.shared_pointer.proofs.shared.Shared.add_owner.Statement as stated
@@ -50,16 +49,7 @@ module _ (E : Bx) where
   fn' = inst_fn (args E) code.function
 
   abbrev ended : Ended
-  ended = F.ended E.row E.al.row E.al.g E.al.d E.al.drops
-
-  abbrev Row : RattleType
-  Row = SH.the_row (R E) (P E) E.al.g
-
-  abbrev stayed : Stays ended.signature.params ended.kept
-  stayed = (stay_dropped (RefOf (0 ∷ []) tt (plain (λ _. Row)) (λ _. tt)) yes, tt)
-
-  abbrev ν : Sym
-  ν = (SH.the_type (R E) (P E) E.al.g).name
+  ended = by_self E (plain (λ _. Row E))
 
 module _ (E : Bx) {M : Type 1} {𝓤 : Ura M} (𝓛 : Logic 𝓤) (at_mem : Memory → SProp 𝓤) (run : Routine → Fun 𝓤) where
   open 𝓛 use {H, A}
@@ -68,38 +58,10 @@ module _ (E : Bx) {M : Type 1} {𝓤 : Ura M} (𝓛 : Logic 𝓤) (at_mem : Memo
   held = with_turn 𝓛 (ended E) (F.clauses E.row E.al.row E.al.g E.al.d E.al.drops 𝓛 at_mem run)
 
   module _ (C : Calls 𝓤 H) (Λ : Loops 𝓤 H) (z : (walk_of 𝓛 (ended E) (stayed E) held).Ghost) where
-    abbrev c : Ptr
-    c = z.0.3.0.now.ptr
-
-    abbrev x : X E
-    x = z.0.3.0.now.value
+    open begun E (ended E).signature.result 𝓛 held z use {c, x, b, o, us, κ, q, others, bound, Post}
 
     abbrev asked : Item 𝓤
     asked = raw ((F.clauses E.row E.al.row E.al.g E.al.d E.al.drops 𝓛 at_mem run z.0.0 z.0.3).requires z.1)
-
-    abbrev b : ℕ
-    b = z.0.3.0.ref_ptr.0
-
-    abbrev o : ℕ
-    o = z.0.3.0.ref_ptr.1
-
-    abbrev us : List Val
-    us = vptr b o ∷ []
-
-    abbrev κ : Lft
-    κ = z.0.0.0
-
-    abbrev q : Share
-    q = z.0.1.0
-
-    abbrev others : Item 𝓤
-    others = ‵ (flft z.0.0.1.0 z.0.1.1.0) ⊛ ‵ (flft z.0.0.1.1.0 z.0.1.1.1.0) ⊛ ‵ ftrue
-
-    abbrev bound : (walk_of 𝓛 (ended E) (stayed E) held).Ghost
-    bound = ((z.0.0, z.0.1, z.0.2, z.0.3, (us, tt)), z.1)
-
-    abbrev Post : Val → SProp 𝓤
-    Post = (walk_of 𝓛 (ended E) (stayed E) held).post bound
 
     -- the new owner, as the call's result
     abbrev result : (Row E).Denot

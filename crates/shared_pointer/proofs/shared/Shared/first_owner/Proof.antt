@@ -4,7 +4,7 @@ use mathlib.Core.List.{List, [], ◌∷◌, ◌++◌}
 use Prim.Native.Nat.{ℕ}
 use seplogic.Ra.Ura.{Ura}
 use lib.Dec.{lit<}
-use mir.Syntax.{Fn, Sym, w64, ty_int}
+use mir.Syntax.{Fn, w64, ty_int}
 use mir.MapTy.{inst_fn}
 use mir.Val.{Val, vint}
 use base.Logic.{SProp, ent}
@@ -39,7 +39,7 @@ use Rattle.std.proofs.VecSteps.Shapes.{after}
 use Rattle.std_alloc.proofs.OfVacant.{Vacant, vacant_val, vacant_typed, Vacant-had}
 use Rattle.shared_pointer.proofs.SharedLending.{first_owner_made}
 use Rattle.shared_pointer.proofs.SharedBlock.{tag, block_ty, block_val, counter, contents, view, Owned, contents_lend, block_filled, right_to_free}
-use Rattle.shared_pointer.specs.contracts.shared.Shared as SH
+use Rattle.shared_pointer.proofs.BySelf.{ν}
 use Rattle.shared_pointer.specs.contracts.shared.Block as BL
 use Rattle.shared_pointer.specs.contracts.shared.Shared.first_owner as F
 use Rattle.shared_pointer.specs.contracts.shared.Shared.first_owner.Key.{name as #self}
@@ -52,9 +52,6 @@ module _ (E : Bx) where
 
   abbrev ended : Ended
   ended = F.ended E.row E.al.row E.al.g E.al.d E.al.drops
-
-  abbrev ν : Sym
-  ν = (SH.the_type (R E) (P E) E.al.g).name
 
   abbrev Block : RattleType
   Block = BL.the_row (R E) (P E)

@@ -2,14 +2,13 @@
 use mathlib.Core.Path.{refl, ap}
 use mathlib.Core.Bool.{Bool}
 use mathlib.Core.List.{List, [], ◌∷◌}
-use Prim.Native.Nat.{ℕ}
 use seplogic.Ra.Ura.{Ura}
 use lib.Dec.{eqb}
-use mir.Syntax.{Fn, Sym, named}
+use mir.Syntax.{Fn, named}
 use mir.MapTy.{inst_fn}
-use mir.Val.{Val, vptr, vbool}
+use mir.Val.{Val, vbool}
 use base.Logic.{SProp, ent, id⊢}
-use base.Fml.{Lft, Share, ftrue, flft, fhide, ftok}
+use base.Fml.{flft, fhide, ftok}
 use base.Mask.{every}
 use prog.Memory.{Memory}
 use prog.Routine.{Routine}
@@ -20,23 +19,23 @@ use types.Kit.{by, Item, ⋆, ‵, raw, ◌⊛◌, at_ret, ◌$◌, ◌∵◌, !
 use types.Run.{look, stop, fld, load, lit, bin, of_opd, first, blocks, exec, returns, enter}
 use types.Part.{look_in, sub, whole}
 use types.ByLocal.{alloc_all, pass_all, free_all, look_at, get, through, sets, sets_last, is, env}
-use denote.Builtin.{RefOf}
+use denote.Builtin.{RefOf, bool}
 use denote.Exit.{yes}
 use denote.Memory.{hidden_shr}
-use denote.RattleType.{RattleType, owns}
-use denote.RawPtr.{Ptr, ptr_val}
+use denote.RattleType.{owns}
+use denote.RawPtr.{ptr_val}
 use denote.Ref.{shr_vals, shr_Tells}
 use denote.Signature.{types_at, plain}
 use denote.Steps.{nothing}
 use denote.Triple.Clauses.{Clauses, Ended}
-use denote.Triple.Walked.{Stays, stay_dropped, walk_of, walked, ends_at, Goes-dropped}
-use Rattle.std.proofs.BoxSteps.Form.{Bx, args, X, R, P}
+use denote.Triple.Walked.{walk_of, walked, ends_at, Goes-dropped}
+use Rattle.std.proofs.BoxSteps.Form.{Bx, args}
 use Rattle.std.proofs.RcSteps.{Word}
 use Rattle.std.proofs.VecSteps.Shapes.{after}
 use Rattle.shared_pointer.proofs.Turns.{with_turn, tables_with_turn, meets_in_turn}
 use Rattle.shared_pointer.proofs.SharedBlock.{Lent}
 use Rattle.shared_pointer.proofs.SharedSteps.{borrow_opened, borrow_shut, count_opened, count_shut}
-use Rattle.shared_pointer.specs.contracts.shared.Shared as SH
+use Rattle.shared_pointer.proofs.BySelf.{Row, ν, by_self, stayed, begun}
 use Rattle.shared_pointer.specs.contracts.shared.Shared.is_last as F
 use Rattle.shared_pointer.specs.contracts.shared.Shared.is_last.Key.{name as #self}
 use Rattle.shared_pointer.proofs.shared.Shared.is_last.Statement as stated
@@ -48,16 +47,7 @@ module _ (E : Bx) where
   fn' = inst_fn (args E) code.function
 
   abbrev ended : Ended
-  ended = F.ended E.row E.al.row E.al.g E.al.d E.al.drops
-
-  abbrev Row : RattleType
-  Row = SH.the_row (R E) (P E) E.al.g
-
-  abbrev stayed : Stays ended.signature.params ended.kept
-  stayed = (stay_dropped (RefOf (0 ∷ []) tt (plain (λ _. Row)) (λ _. tt)) yes, tt)
-
-  abbrev ν : Sym
-  ν = (SH.the_type (R E) (P E) E.al.g).name
+  ended = by_self E (plain (λ _. bool))
 
 module _ (E : Bx) {M : Type 1} {𝓤 : Ura M} (𝓛 : Logic 𝓤) (at_mem : Memory → SProp 𝓤) (run : Routine → Fun 𝓤) where
   open 𝓛 use {H, A}
@@ -66,38 +56,10 @@ module _ (E : Bx) {M : Type 1} {𝓤 : Ura M} (𝓛 : Logic 𝓤) (at_mem : Memo
   held = with_turn 𝓛 (ended E) (F.clauses E.row E.al.row E.al.g E.al.d E.al.drops 𝓛 at_mem run)
 
   module _ (C : Calls 𝓤 H) (Λ : Loops 𝓤 H) (z : (walk_of 𝓛 (ended E) (stayed E) held).Ghost) where
-    abbrev c : Ptr
-    c = z.0.3.0.now.ptr
-
-    abbrev x : X E
-    x = z.0.3.0.now.value
+    open begun E (ended E).signature.result 𝓛 held z use {c, x, b, o, us, κ, q, others, bound, Post}
 
     abbrev asked : Item 𝓤
     asked = raw ((F.clauses E.row E.al.row E.al.g E.al.d E.al.drops 𝓛 at_mem run z.0.0 z.0.3).requires z.1)
-
-    abbrev b : ℕ
-    b = z.0.3.0.ref_ptr.0
-
-    abbrev o : ℕ
-    o = z.0.3.0.ref_ptr.1
-
-    abbrev us : List Val
-    us = vptr b o ∷ []
-
-    abbrev κ : Lft
-    κ = z.0.0.0
-
-    abbrev q : Share
-    q = z.0.1.0
-
-    abbrev others : Item 𝓤
-    others = ‵ (flft z.0.0.1.0 z.0.1.1.0) ⊛ ‵ (flft z.0.0.1.1.0 z.0.1.1.1.0) ⊛ ‵ ftrue
-
-    abbrev bound : (walk_of 𝓛 (ended E) (stayed E) held).Ghost
-    bound = ((z.0.0, z.0.1, z.0.2, z.0.3, (us, tt)), z.1)
-
-    abbrev Post : Val → SProp 𝓤
-    Post = (walk_of 𝓛 (ended E) (stayed E) held).post bound
 
     exits : (y : Bool) → ent 𝓤 (⋆ 𝓛 (‵ (flft κ q) ∷ others ∷ ‵ (ftok every) ∷ [])) (Post (vbool y))
     exits y =

@@ -10,7 +10,7 @@ use Prim.Native.Nat.{ℕ, ◌+◌, ◌-◌, ◌<◌, ◌^◌}
 use native.Mathlib.Omega.{arith}
 use seplogic.Ra.Ura.{Ura}
 use lib.Dec.{T, eqb, eqb→eq, eqb_refl}
-use mir.Syntax.{Fn, Sym, named, w64, ty_int}
+use mir.Syntax.{Fn, named, w64, ty_int}
 use mir.MapTy.{inst_fn}
 use mir.Val.{Val, vptr, vint, vbool}
 use base.Fraction.{full_share}
@@ -31,14 +31,14 @@ use types.ByLocal.{alloc_all, pass_all, free_all, look_at, get, through, sets, s
 use denote.Builtin.{RefOf}
 use denote.Exit as exit
 use denote.Memory.{hidden_shr}
-use denote.RattleType.{RattleType, owns}
+use denote.RattleType.{owns}
 use denote.Ref.{shr_vals, shr_Tells}
 use denote.RawPtr.{Ptr, coded_ptr, block_of, count_of, ptr_val}
 use denote.Signature.{types_at, plain}
 use denote.Steps.{nothing}
 use denote.Triple.Clauses.{Clauses, Ended}
 use denote.Triple.Walked.{says, Stays, stay_dropped, walk_of, walked, ends_at, Goes-dropped}
-use Rattle.std.proofs.BoxSteps.Form.{Bx, args, X, R, P}
+use Rattle.std.proofs.BoxSteps.Form.{Bx, args, X, R}
 use Rattle.std.proofs.RcSteps.{Word}
 use Rattle.std.proofs.VecSteps.Shapes.{after}
 use Rattle.shared_pointer.specs.SharedOwnership.{Marks, key, Invariant}
@@ -46,7 +46,7 @@ use Rattle.shared_pointer.proofs.SharedInvariant.{same_value}
 use Rattle.shared_pointer.proofs.SharedBlock.{cell, tag, counter, contents, Lent}
 use Rattle.shared_pointer.proofs.SharedSteps.{Shutting, borrow_opened, borrow_shut, count_opened, count_shut}
 use Rattle.shared_pointer.proofs.Turns.{with_turn, tables_with_turn, meets_in_turn}
-use Rattle.shared_pointer.specs.contracts.shared.Shared as SH
+use Rattle.shared_pointer.proofs.BySelf.{Row, ν}
 use Rattle.shared_pointer.specs.contracts.shared.Shared.ptr_eq as F
 use Rattle.shared_pointer.specs.contracts.shared.Shared.ptr_eq.Key.{name as #self}
 use Rattle.shared_pointer.proofs.shared.Shared.ptr_eq.Statement as stated
@@ -82,17 +82,11 @@ module _ (E : Bx) where
   abbrev ended : Ended
   ended = F.ended E.row E.al.row E.al.g E.al.d E.al.drops
 
-  abbrev Row : RattleType
-  Row = SH.the_row (R E) (P E) E.al.g
-
   abbrev stayed : Stays ended.signature.params ended.kept
   stayed = (
-    stay_dropped (RefOf (0 ∷ []) tt (plain (λ _. Row)) (λ _. tt)) exit.yes,
-    (stay_dropped (RefOf (1 ∷ []) tt (plain (λ _. Row)) (λ _. tt)) exit.yes, tt),
+    stay_dropped (RefOf (0 ∷ []) tt (plain (λ _. Row E)) (λ _. tt)) exit.yes,
+    (stay_dropped (RefOf (1 ∷ []) tt (plain (λ _. Row E)) (λ _. tt)) exit.yes, tt),
   )
-
-  abbrev ν : Sym
-  ν = (SH.the_type (R E) (P E) E.al.g).name
 
   -- what shuts an invariant, less the rest of the token
   abbrev Way : {M : Type 1} {𝓤 : Ura M} (𝓛 : Logic 𝓤) (c : Ptr) (x : X E) → Marks → SProp 𝓤

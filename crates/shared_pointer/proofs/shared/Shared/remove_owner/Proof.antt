@@ -7,7 +7,7 @@ use Prim.Native.Nat.{◌-◌, ◌<◌, ◌^◌}
 use native.Mathlib.Omega.{arith}
 use seplogic.Ra.Ura.{Ura}
 use lib.Dec.{lit<}
-use mir.Syntax.{Fn, Sym}
+use mir.Syntax.{Fn}
 use mir.MapTy.{inst_fn}
 use mir.Val.{Val, vcons, vnil}
 use base.Logic.{SProp, ent}
@@ -45,7 +45,7 @@ use Rattle.shared_pointer.proofs.SharedTickets.{ticket_in}
 use Rattle.shared_pointer.proofs.SharedBlock.{Owned, contents_split, block_joined}
 use Rattle.shared_pointer.proofs.SharedSteps.{owner_split, count_opened, count_shut, one_less, last_one}
 use Rattle.shared_pointer.proofs.Turns.{with_turn, tables_with_turn, meets_in_turn}
-use Rattle.shared_pointer.specs.contracts.shared.Shared as SH
+use Rattle.shared_pointer.proofs.BySelf.{Row, ν}
 use Rattle.shared_pointer.specs.contracts.shared.Block as BL
 use Rattle.shared_pointer.specs.contracts.shared.Shared.remove_owner as F
 use Rattle.shared_pointer.specs.contracts.shared.Shared.remove_owner.Key.{name as #self}
@@ -60,14 +60,8 @@ module _ (E : Bx) where
   abbrev ended : Ended
   ended = F.ended E.row E.al.row E.al.g E.al.d E.al.drops
 
-  abbrev Row : RattleType
-  Row = SH.the_row (R E) (P E) E.al.g
-
   abbrev stayed : Stays ended.signature.params ended.kept
-  stayed = (stay_dropped (plain (λ _. Row)) no, tt)
-
-  abbrev ν : Sym
-  ν = (SH.the_type (R E) (P E) E.al.g).name
+  stayed = (stay_dropped (plain (λ _. Row E)) no, tt)
 
   abbrev Block : RattleType
   Block = BL.the_row (R E) (P E)

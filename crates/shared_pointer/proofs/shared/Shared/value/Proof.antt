@@ -1,13 +1,13 @@
 -- `value` hands out what every owner sees. The count is not touched, so the invariant stays shut.
 use mathlib.Core.Path.{refl, sym}
 use mathlib.Core.List.{List, [], ◌∷◌}
-use Prim.Native.Nat.{ℕ, ◌+◌}
+use Prim.Native.Nat.{◌+◌}
 use seplogic.Ra.Ura.{Ura}
-use mir.Syntax.{Fn, Sym, named}
+use mir.Syntax.{Fn, named}
 use mir.MapTy.{inst_fn}
 use mir.Val.{Val, vptr}
 use base.Logic.{SProp, ent, fst∗, never, id⊢}
-use base.Fml.{Lft, Share, ftrue, fat, flft, fhide}
+use base.Fml.{fat, flft, fhide}
 use prog.Memory.{Memory}
 use prog.Routine.{Routine}
 use prog.Wp.{Env, Calls, Loops, WpFn}
@@ -22,21 +22,21 @@ use denote.Builtin.{RefOf}
 use denote.Exit.{yes}
 use denote.Memory.{shared_of, hidden_shr}
 use denote.Opens.{unhide, hide}
-use denote.RattleType.{RattleType, owns}
+use denote.RattleType.{owns}
 use denote.Ref.{shr_vals, shr_Tells}
 use denote.RawPtr.{Ptr, in_a_block, ◌+ₚ◌}
 use denote.Signature.{types_at, plain}
 use denote.Steps.{nothing}
 use denote.Struct.Lending.{lent_at, lent_at_shr_laws}
 use denote.Triple.Clauses.{Clauses, Ended}
-use denote.Triple.Walked.{says, Stays, stay_dropped, walk_of, ends_at, Goes-dropped}
-use Rattle.std.proofs.BoxSteps.Form.{Bx, args, X, R, P}
+use denote.Triple.Walked.{says, walk_of, ends_at, Goes-dropped}
+use Rattle.std.proofs.BoxSteps.Form.{Bx, args, R}
 use Rattle.std.proofs.RcSteps.{word, word_ty, Word, reads, read}
 use Rattle.std.proofs.raw_atomic.Walks.{proved}
 use Rattle.std.proofs.VecSteps.Shapes.{after}
 use Rattle.shared_pointer.proofs.SharedLending.{sees}
 use Rattle.shared_pointer.proofs.SharedBlock.{tag, value_at, counter, contents, view, Lent}
-use Rattle.shared_pointer.specs.contracts.shared.Shared as SH
+use Rattle.shared_pointer.proofs.BySelf.{Row, ν, by_self, stayed, begun}
 use Rattle.shared_pointer.specs.contracts.shared.Shared.value as F
 use Rattle.shared_pointer.specs.contracts.shared.Shared.value.Key.{name as #self}
 use Rattle.shared_pointer.proofs.shared.Shared.value.Statement as stated
@@ -47,16 +47,7 @@ module _ (E : Bx) where
   fn' = inst_fn (args E) code.function
 
   abbrev ended : Ended
-  ended = F.ended E.row E.al.row E.al.g E.al.d E.al.drops
-
-  abbrev Row : RattleType
-  Row = SH.the_row (R E) (P E) E.al.g
-
-  abbrev stayed : Stays ended.signature.params ended.kept
-  stayed = (stay_dropped (RefOf (0 ∷ []) tt (plain (λ _. Row)) (λ _. tt)) yes, tt)
-
-  abbrev ν : Sym
-  ν = (SH.the_type (R E) (P E) E.al.g).name
+  ended = by_self E (RefOf (0 ∷ []) tt (plain (λ _. R E)) (λ _. tt))
 
 module _ (E : Bx) {M : Type 1} {𝓤 : Ura M} (𝓛 : Logic 𝓤) (at_mem : Memory → SProp 𝓤) (run : Routine → Fun 𝓤) where
   open 𝓛 use {H, A}
@@ -65,38 +56,10 @@ module _ (E : Bx) {M : Type 1} {𝓤 : Ura M} (𝓛 : Logic 𝓤) (at_mem : Memo
   held = F.clauses E.row E.al.row E.al.g E.al.d E.al.drops 𝓛 at_mem run
 
   module _ (C : Calls 𝓤 H) (Λ : Loops 𝓤 H) (z : (walk_of 𝓛 (ended E) (stayed E) held).Ghost) where
-    abbrev c : Ptr
-    c = z.0.3.0.now.ptr
-
-    abbrev x : X E
-    x = z.0.3.0.now.value
+    open begun E (ended E).signature.result 𝓛 held z use {c, x, b, o, us, κ, q, others, bound, Post}
 
     abbrev asked : Item 𝓤
     asked = raw ((F.clauses E.row E.al.row E.al.g E.al.d E.al.drops 𝓛 at_mem run z.0.0 z.0.3).requires z.1)
-
-    abbrev b : ℕ
-    b = z.0.3.0.ref_ptr.0
-
-    abbrev o : ℕ
-    o = z.0.3.0.ref_ptr.1
-
-    abbrev us : List Val
-    us = vptr b o ∷ []
-
-    abbrev κ : Lft
-    κ = z.0.0.0
-
-    abbrev q : Share
-    q = z.0.1.0
-
-    abbrev others : Item 𝓤
-    others = ‵ (flft z.0.0.1.0 z.0.1.1.0) ⊛ ‵ (flft z.0.0.1.1.0 z.0.1.1.1.0) ⊛ ‵ ftrue
-
-    abbrev bound : (walk_of 𝓛 (ended E) (stayed E) held).Ghost
-    bound = ((z.0.0, z.0.1, z.0.2, z.0.3, (us, tt)), z.1)
-
-    abbrev Post : Val → SProp 𝓤
-    Post = (walk_of 𝓛 (ended E) (stayed E) held).post bound
 
     walks : ent 𝓤 ((walk_of 𝓛 (ended E) (stayed E) held).pre bound) (WpFn 𝓤 H C Λ (fn' E) us Post)
     walks =
