@@ -96,6 +96,8 @@ fn shape_of(number: &[u8]) -> u8
     }
 }
 
+// Not inlined: its comparisons would take the registers that the loop of `sights` needs.
+#[inline(never)]
 fn word_of(word: &str, edition: Edition) -> u8
     ensures { result ≡ word_on (contextual_keyword_of edition word.now) }
 {

@@ -1,9 +1,9 @@
 -- Where a text is cut, both parts are texts.
-use Rattle.std.proofs.Common.{◌≡◌, ℕ, ◌-◌, ◌<◌, Bool, true, false, not, ◌||◌, ◌==◌, List, length, refl, arith, if◌then◌else◌}
+use Rattle.std.proofs.Common.{◌≡◌, ◌∙◌, ap, ℕ, ◌-◌, ◌<◌, ◌≤◌, Bool, true, false, not, ◌||◌, ◌==◌, List, length, refl, arith, if◌then◌else◌}
 use Rattle.std.specs.Str.{IsUtf8, IsCharBoundary}
 use Rattle.std.proofs.lemmas.Bool.Decides.{nat_tests}
 use Rattle.std.proofs.lemmas.Str.{IsUtf8-take, IsUtf8-drop}
-use Rattle.rust_lexer.specs.Cuts.{is_boundary_of, cut_of, front_of, back_of}
+use Rattle.rust_lexer.specs.Cuts.{is_boundary_of, cut_of, front_of, back_of, IsEnd}
 
 boundary : (i : ℕ) (s : List ℕ) → is_boundary_of i s ≡ true → IsCharBoundary s i
 boundary i s h = (grind (arith, nat_tests), λ l m. grind (arith, nat_tests))
@@ -46,3 +46,21 @@ front-utf8 n s u = IsUtf8-take s (cut_of n s) u (cut-boundary n s)
 
 pub back-utf8 : (n : ℕ) (s : List ℕ) → IsUtf8 s → IsUtf8 (back_of n s)
 back-utf8 n s u = IsUtf8-drop s (cut_of n s) u (cut-boundary n s)
+
+is_boundary : (i : ℕ) (s : List ℕ) → IsCharBoundary s i → is_boundary_of i s ≡ true
+is_boundary i s b = grind (arith, nat_tests, b.0, b.1)
+
+is_some : (n : ℕ) → 0 < n → (n == 0) ≡ false
+is_some n l = grind (arith, nat_tests)
+
+last_part : (a b : Bool) (m n : ℕ) → a ≡ false → b ≡ true → (if a || not b then m else n) ≡ n
+last_part false true m n f t = refl
+last_part true b m n f t = cc
+last_part false false m n f t = cc
+
+pub cut-end : (n : ℕ) (s : List ℕ) → IsEnd s n → cut_of (length s - n) s ≡ n
+cut-end n s e =
+    let l : n ≤ length s = e.1.0 in
+    let same : length s - (length s - n) ≡ n = omega arith in
+    ap (λ (i : ℕ). if (i == 0) || not (is_boundary_of i s) then length s else i) same
+    ∙ last_part (n == 0) (is_boundary_of n s) (length s) n (is_some n e.0) (is_boundary n s e.1)

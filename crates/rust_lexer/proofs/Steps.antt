@@ -1,7 +1,13 @@
 -- One token more.
-use Rattle.std.proofs.Common.{◌≡◌, ℕ, zero, suc, ◌+◌, ◌-◌, ◌<◌, true, false, ◌==◌, List, ap, ◌∙◌, refl, arith, length, if◌then◌else◌}
+use Rattle.std.proofs.Common.{◌≡◌, [], ◌∷◌, ◌++◌, take, drop, ◌≤◌, length-take, min, ℕ, zero, suc, ◌+◌, ◌-◌, ◌<◌, true, false, ◌==◌, List, ap, ◌∙◌, refl, arith, length, if◌then◌else◌}
 use Rattle.ras_front_end.specs.declared.edition.Edition.{Edition}
-use Rattle.rust_lexer.specs.Lexing.{Lexing, steps_of, taken}
+use Rattle.rust_lexer.specs.Lexing.{Lexing, size_of, steps_of, taken}
+use Rattle.syntax_kind.specs.declared.syntax_kind.SyntaxKind.{SyntaxKind}
+use Rattle.token_layout.specs.declared.span.Token.{Token}
+use Rattle.rust_lexer.specs.declared.lexer.LexError.{LexError}
+use Rattle.rust_lexer.specs.Cuts.{IsEnd}
+use Rattle.rust_lexer.specs.Shapes.{plain_of}
+use Rattle.rust_lexer.proofs.Cutting.{cut-end}
 use Rattle.rust_lexer.specs.Tokens.{token_of}
 
 pub steps-one : (n : ℕ) (e : Edition) (text : List ℕ) (s : Lexing) → (length s.rest == 0) ≡ false → steps_of (suc n) e text s ≡ steps_of n e text (taken text (token_of e s.rest) s)
@@ -22,3 +28,18 @@ pub steps-end : (k : ℕ) (e : Edition) (text : List ℕ) (s : Lexing) → k ≡
 unfolding steps_of
 steps-end zero e text s h = refl
 steps-end (suc k) e text s h = absurd (omega (arith, h))
+
+abbrev at_cut : SyntaxKind → ℕ → ℕ → Lexing → Lexing
+at_cut k i m s = record { tokens = s.tokens ++ (record { kind = k; len = size_of m }) ∷ []; errors = s.errors; rest = drop i s.rest }
+
+pub taken_plain : (text : List ℕ) (k : SyntaxKind) (n : ℕ) (s : Lexing) → IsEnd s.rest n → taken text (plain_of k (length s.rest - n)) s ≡ record { tokens = s.tokens ++ (record { kind = k; len = size_of n }) ∷ []; errors = s.errors; rest = drop n s.rest }
+taken_plain text k n s end =
+    let l : n ≤ length s.rest = end.1.0 in
+    ap (λ (i : ℕ). at_cut k i (length (take i s.rest)) s) (cut-end n s.rest end)
+    ∙ ap (λ (m : ℕ). at_cut k n m s) (let least : min n (length s.rest) ≡ n = omega arith in length-take n s.rest ∙ least)
+
+abbrev made : List Token → List LexError → List ℕ → Lexing
+made ts es r = record { tokens = ts; errors = es; rest = r }
+
+pub lexing_made : (ts us : List Token) (es : List LexError) (r q : List ℕ) → ts ≡ us → r ≡ q → made ts es r ≡ made us es q
+lexing_made ts us es r q a b = ap (λ (x : List Token). made x es r) a ∙ ap (λ (x : List ℕ). made us es x) b

@@ -1,6 +1,7 @@
 -- Where a text is cut: before its last n bytes, if a character begins there and it is not the
 -- start; otherwise at its end.
-use Rattle.std.specs.Prelude.{ℕ, ◌-◌, Bool, not, nat_lt, nat_le, ◌==◌, ◌&&◌, ◌||◌, if◌then◌else◌, List, length, take, drop, slice_index}
+use Rattle.std.specs.Prelude.{ℕ, ◌-◌, Bool, not, nat_lt, nat_le, ◌==◌, ◌&&◌, ◌||◌, if◌then◌else◌, List, length, take, drop, slice_index, ◌<◌}
+use Rattle.std.specs.Str.{IsCharBoundary}
 
 -- a character begins at the position, or the text ends there
 abbrev pub is_boundary_of : ℕ → List ℕ → Bool
@@ -14,3 +15,7 @@ front_of n s = take (cut_of n s) s
 
 abbrev pub back_of : ℕ → List ℕ → List ℕ
 back_of n s = drop (cut_of n s) s
+
+-- the first n bytes are not none, and are whole characters
+abbrev pub IsEnd : List ℕ → ℕ → Type 0
+IsEnd s n = (0 < n) × IsCharBoundary s n

@@ -1,5 +1,5 @@
 //! Classes of bytes and characters, and the longest prefix of a text in one.
-ghost use Rattle.std.specs.Prelude.{◌≡◌, slice_get, drop};
+ghost use Rattle.std.specs.Prelude.{◌≡◌, ◌≤◌, length, slice_get, drop};
 ghost use Rattle.bstr.specs.Utf8.{decoded};
 ghost use Rattle.rust_lexer.specs.declared.class.Class.TheVariants as classes;
 ghost use Rattle.rust_lexer.specs.Fast.{begins_word_of, is_prefix_of, is_alone_of};
@@ -220,6 +220,19 @@ pub fn skip(class: Class, bytes: &[u8]) -> &[u8]
         rest = tail;
     }
     rest
+}
+
+/// The length of the longest prefix of bytes in the class.
+#[inline(always)]
+pub fn count(class: Class, bytes: &[u8]) -> usize
+    ensures within { result ≤ length bytes.now }
+    ensures rest { drop result bytes.now ≡ skip_of class bytes.now }
+{
+    let mut len = 0;
+    while len < bytes.len() && is_in(class, bytes[len]) {
+        len += 1;
+    }
+    len
 }
 
 /// The rest after the first UTF-8 character.

@@ -1,5 +1,6 @@
 //! The tokens of a text.
-ghost use Rattle.std.specs.Prelude.{◌≡◌, ◌≤◌, ◌<◌, ◌^◌, ℕ, List, [], ◌∷◌, ◌++◌, OnOk, IfOk, All, length};
+ghost use Rattle.std.specs.Prelude.{◌≡◌, ◌≤◌, ◌<◌, ◌^◌, ◌-◌, ℕ, List, [], ◌∷◌, ◌++◌, OnOk, IfOk, All, length};
+ghost use Rattle.rust_lexer.specs.Cuts.{IsEnd};
 ghost use Rattle.rust_lexer.specs.Shapes.{plain_of};
 ghost use Rattle.rust_lexer.specs.Tokens.{token_of};
 ghost use Rattle.rust_lexer.specs.Lexing.{size_of, range_of, content_of, faults_at, faults_with, prefix_problem_of, problems_of, lexing_of, taken, taken_some, taken_prelude, taken_head, steps_of, fresh, tokens_of, errors_of};
@@ -10,14 +11,16 @@ ghost use Rattle.std.specs.Str.{chars};
 ghost use Rattle.token_layout.specs.Laid.{IsCut};
 ghost use Rattle.rust_lexer.specs.Laws.{HasBytes, ErrorLiesIn};
 
+use crate::class::{begins_word, first_byte, is_alone, is_blank};
 use crate::cut::split;
 use crate::escape::{is_plain, is_unit, result_problem, unit_problem};
 use crate::front_matter::{Prelude, head};
 use crate::history::is_behind_code;
 use crate::problem::Problem;
+use crate::punctuation::sign_kind;
 use crate::shape::{Check, Shape};
 use crate::shebang::shebang;
-use crate::token::{plain_token, token};
+use crate::token::{plain_letter, plain_space, token};
 use literal_escape::{Mode, Units};
 use ras_front_end::Edition;
 use rust_kinds::kinds;
@@ -187,20 +190,22 @@ fn push(tokens: &mut Vec<Token>, token: Token) -> Result<(), AllocError>
     Ok(())
 }
 
-// Takes a token without a problem from the start of the rest, and returns what follows it.
+// Takes a token without a problem, of this kind and length, from the start of the rest, and returns
+// what follows it.
 #[inline(always)]
 fn take_plain<'a>(
     lexed: &mut Lexed,
     rest: &'a str,
     kind: SyntaxKind,
-    left: usize,
+    len: usize,
 ) -> Result<&'a str, AllocError>
+    requires { IsEnd rest.now len }
     ensures { IfOk result (λ tail. (text : List ℕ)
         → lexing_of lexed.new tail.now
-        ≡ taken text (plain_of kind left) (lexing_of lexed.old rest.now)) }
+        ≡ taken text (plain_of kind (length rest.now - len)) (lexing_of lexed.old rest.now)) }
 {
-    let (front, tail) = split(rest, left);
-    let len = size(front.len());
+    let (_, tail) = rest.split_at(len);
+    let len = size(len);
     push(&mut lexed.tokens, Token { kind, len })?;
     Ok(tail)
 }
@@ -230,13 +235,23 @@ fn take_next<'a>(
     ensures { IfOk result (λ tail. lexing_of lexed.new tail.now
         ≡ taken text.now (token_of edition rest.now) (lexing_of lexed.old rest.now)) }
 {
-    match plain_token(rest, edition) {
-        Some((kind, left)) => {
-            let tail = take_plain(lexed, rest, kind, left)?;
-            Ok(tail)
+    if let Some(first) = first_byte(rest.as_bytes()) {
+        if is_blank(first) {
+            if let Some(len) = plain_space(rest) {
+                let tail = take_plain(lexed, rest, SyntaxKind::WHITESPACE, len)?;
+                return Ok(tail);
+            }
+        } else if begins_word(first) {
+            if let Some((kind, len)) = plain_letter(first, rest, edition) {
+                let tail = take_plain(lexed, rest, kind, len)?;
+                return Ok(tail);
+            }
+        } else if is_alone(first) {
+            let tail = take_plain(lexed, rest, sign_kind(first), 1)?;
+            return Ok(tail);
         }
-        None => take_any(lexed, text, rest, edition),
     }
+    take_any(lexed, text, rest, edition)
 }
 
 // Takes a token of this kind that ends `left` bytes before the end, if there is one and something

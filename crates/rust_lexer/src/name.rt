@@ -1,10 +1,12 @@
 //! Names and keywords.
-ghost use Rattle.std.specs.Prelude.{◌≡◌, IfSome};
+ghost use Rattle.std.specs.Prelude.{◌≡◌, ◌-◌, IfSome, length};
+ghost use Rattle.rust_lexer.specs.Cuts.{IsEnd};
 ghost use Rattle.rust_lexer.specs.Shapes.{plain_of};
 ghost use Rattle.rust_lexer.specs.Names.{begins_name_of, begins_emoji_of, skip_name_of, skip_suffix_of, emoji_name_of, word_kind_of, prefix_of, name_of, begins_wide_name_of, is_literal_mark_of, begins_wide_emoji_of};
 
 use crate::class::{
-    Class, Wide, begins_beyond, first_byte, is_emoji, is_letter, is_name_start, skip, skip_wide,
+    Class, Wide, after, begins_beyond, count, first_byte, is_emoji, is_letter, is_name_start, skip,
+    skip_wide,
 };
 use crate::cut::split;
 use crate::problem::Problem;
@@ -144,17 +146,20 @@ pub fn name(text: &str, edition: Edition) -> Shape
     }
 }
 
-/// The kind of a name and the number of bytes after it, unless something follows it that needs a
-/// closer look: a character past ASCII, a quote or a `#`.
+/// The kind of a name and its length, unless something follows it that needs a closer look: a
+/// character past ASCII, a quote or a `#`.
 #[inline(always)]
 pub fn plain_name(text: &str, edition: Edition) -> Option<(SyntaxKind, usize)>
-    ensures { IfSome result (λ r. name_of edition text.now ≡ plain_of r.0 r.1) }
+    ensures name { IfSome result
+        (λ r. name_of edition text.now ≡ plain_of r.0 (length text.now - r.1)) }
+    ensures end { IfSome result (λ r. IsEnd text.now r.1) }
 {
-    let rest = skip(Class::Name, text.as_bytes());
-    if begins_beyond(rest) || is_literal_mark(rest) {
+    let bytes = text.as_bytes();
+    let len = count(Class::Name, bytes);
+    let rest = after(bytes, len);
+    if len == 0 || begins_beyond(rest) || is_literal_mark(rest) {
         return None;
     }
-    let left = rest.len();
-    let (word, _) = split(text, left);
-    Some((word_kind(word, edition), left))
+    let (word, _) = text.split_at(len);
+    Some((word_kind(word, edition), len))
 }

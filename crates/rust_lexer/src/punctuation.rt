@@ -1,42 +1,50 @@
 //! Single signs.
 ghost use Rattle.std.specs.Prelude.{◌≡◌};
+ghost use Rattle.syntax_kind.specs.declared.syntax_kind.SyntaxKind.TheVariants.{Token};
 ghost use Rattle.rust_lexer.specs.Signs.{sign_kind_of};
 
-use syntax_kind::SyntaxKind;
+use syntax_kind::{SyntaxKind, TokenKind};
+
+#[inline(always)]
+fn sign_token(byte: u8) -> TokenKind
+    ensures { Token result ≡ sign_kind_of byte }
+{
+    match byte {
+        b';' => TokenKind::SEMICOLON,
+        b',' => TokenKind::COMMA,
+        b'.' => TokenKind::DOT,
+        b'(' => TokenKind::L_PAREN,
+        b')' => TokenKind::R_PAREN,
+        b'{' => TokenKind::L_CURLY,
+        b'}' => TokenKind::R_CURLY,
+        b'[' => TokenKind::L_BRACK,
+        b']' => TokenKind::R_BRACK,
+        b'<' => TokenKind::L_ANGLE,
+        b'>' => TokenKind::R_ANGLE,
+        b'@' => TokenKind::AT,
+        b'#' => TokenKind::POUND,
+        b'$' => TokenKind::DOLLAR,
+        b'~' => TokenKind::TILDE,
+        b'?' => TokenKind::QUESTION,
+        b'&' => TokenKind::AMP,
+        b'|' => TokenKind::PIPE,
+        b'+' => TokenKind::PLUS,
+        b'*' => TokenKind::STAR,
+        b'/' => TokenKind::SLASH,
+        b'^' => TokenKind::CARET,
+        b'%' => TokenKind::PERCENT,
+        b':' => TokenKind::COLON,
+        b'=' => TokenKind::EQ,
+        b'!' => TokenKind::BANG,
+        b'-' => TokenKind::MINUS,
+        _ => TokenKind::ERROR,
+    }
+}
 
 /// The kind of the sign that the byte is, or `ERROR` if it is not one.
 #[inline(always)]
 pub fn sign_kind(byte: u8) -> SyntaxKind
     ensures { result ≡ sign_kind_of byte }
 {
-    match byte {
-        b';' => SyntaxKind::SEMICOLON,
-        b',' => SyntaxKind::COMMA,
-        b'.' => SyntaxKind::DOT,
-        b'(' => SyntaxKind::L_PAREN,
-        b')' => SyntaxKind::R_PAREN,
-        b'{' => SyntaxKind::L_CURLY,
-        b'}' => SyntaxKind::R_CURLY,
-        b'[' => SyntaxKind::L_BRACK,
-        b']' => SyntaxKind::R_BRACK,
-        b'<' => SyntaxKind::L_ANGLE,
-        b'>' => SyntaxKind::R_ANGLE,
-        b'@' => SyntaxKind::AT,
-        b'#' => SyntaxKind::POUND,
-        b'$' => SyntaxKind::DOLLAR,
-        b'~' => SyntaxKind::TILDE,
-        b'?' => SyntaxKind::QUESTION,
-        b'&' => SyntaxKind::AMP,
-        b'|' => SyntaxKind::PIPE,
-        b'+' => SyntaxKind::PLUS,
-        b'*' => SyntaxKind::STAR,
-        b'/' => SyntaxKind::SLASH,
-        b'^' => SyntaxKind::CARET,
-        b'%' => SyntaxKind::PERCENT,
-        b':' => SyntaxKind::COLON,
-        b'=' => SyntaxKind::EQ,
-        b'!' => SyntaxKind::BANG,
-        b'-' => SyntaxKind::MINUS,
-        _ => SyntaxKind::ERROR,
-    }
+    SyntaxKind::Token(sign_token(byte))
 }

@@ -1,12 +1,15 @@
 //! The first token of a text.
-ghost use Rattle.std.specs.Prelude.{◌≡◌, IfSome};
+ghost use Rattle.std.specs.Prelude.{◌≡◌, ◌-◌, IfSome, drop, length};
+ghost use Rattle.rust_lexer.specs.Cuts.{IsEnd};
+ghost use Rattle.syntax_kind.specs.declared.syntax_kind.SyntaxKind.TheVariants.{Token};
+ghost use Rattle.syntax_kind.specs.declared.syntax_kind.token_kind.TokenKind.TheVariants as token;
 ghost use Rattle.rust_lexer.specs.Fast.{opens_literal_of};
 ghost use Rattle.rust_lexer.specs.Shapes.{plain_of};
 ghost use Rattle.rust_lexer.specs.Tokens.{space_of, sign_of, slash_of, is_reserved_of, pound_of, opens_raw_of, letter_r_of, letter_b_of, letter_c_of, beyond_of, letter_of, mark_of, other_of, token_of};
 
 use crate::class::{
-    Class, Wide, after, after_char, begins, begins_beyond, begins_wide, begins_word, first_byte,
-    is_alone, is_blank, is_digit, is_in, is_letter, is_prefix, skip, skip_wide,
+    Class, Wide, after, after_char, begins, begins_beyond, begins_wide, count, first_byte,
+    is_digit, is_in, is_letter, is_prefix, skip, skip_wide,
 };
 use crate::comment::{block_comment, line_comment};
 use crate::name::{begins_emoji, begins_name, emoji_name, name, plain_name, skip_name};
@@ -200,19 +203,6 @@ pub fn token(text: &str, edition: Edition) -> Shape
     }
 }
 
-// White space in ASCII that no other character past ASCII follows.
-#[inline(always)]
-fn plain_space(bytes: &[u8]) -> Option<(SyntaxKind, usize)>
-    ensures { IfSome result (λ r. space_of bytes.now ≡ plain_of r.0 r.1) }
-{
-    let rest = skip(Class::Space, bytes);
-    if begins_beyond(rest) {
-        None
-    } else {
-        Some((SyntaxKind::WHITESPACE, rest.len()))
-    }
-}
-
 // Whether it is `r`, `b` or `c`, and may begin a literal or a raw name; `rest` is the text after
 // it.
 #[inline(always)]
@@ -225,34 +215,32 @@ fn opens_literal(first: u8, rest: &[u8]) -> bool
             || (begins(b'r', rest) && opens_raw(after(rest, 1))))
 }
 
-// A name or keyword; `rest` is the text after its first letter.
+/// The length of white space in ASCII that begins the text, unless a character past ASCII follows.
 #[inline(always)]
-fn plain_letter(first: u8, text: &str, rest: &[u8], edition: Edition) -> Option<(SyntaxKind, usize)>
-    ensures { IfSome result (λ r. letter_of edition first text.now rest.now ≡ plain_of r.0 r.1) }
+pub fn plain_space(text: &str) -> Option<usize>
+    ensures space { IfSome result (λ n. space_of text.now
+        ≡ plain_of (Token token.WHITESPACE) (length text.now - n)) }
+    ensures end { IfSome result (λ n. IsEnd text.now n) }
 {
-    if opens_literal(first, rest) {
+    let bytes = text.as_bytes();
+    let len = count(Class::Space, bytes);
+    if len == 0 || begins_beyond(after(bytes, len)) {
+        None
+    } else {
+        Some(len)
+    }
+}
+
+/// The kind and the length of a name or keyword of ASCII that begins the text with its letter
+/// `first`.
+#[inline(always)]
+pub fn plain_letter(first: u8, text: &str, edition: Edition) -> Option<(SyntaxKind, usize)>
+    ensures letter { IfSome result (λ r. letter_of edition first text.now (drop 1 text.now)
+        ≡ plain_of r.0 (length text.now - r.1)) }
+    ensures end { IfSome result (λ r. IsEnd text.now r.1) }
+{
+    if opens_literal(first, after(text.as_bytes(), 1)) {
         return None;
     }
     plain_name(text, edition)
-}
-
-/// The kind of the first token and the number of bytes after it, if it is ASCII white space, a name
-/// or keyword of ASCII, or a sign that begins no longer token. These are most tokens, and have no
-/// problem. `None` says nothing about the token.
-#[tactic(auto, using(crate::proofs::Plain::sign_alone), unfolding(crate::specs::Tokens::token_of))]
-#[inline(always)]
-pub fn plain_token(text: &str, edition: Edition) -> Option<(SyntaxKind, usize)>
-    ensures { IfSome result (λ r. token_of edition text.now ≡ plain_of r.0 r.1) }
-{
-    let bytes = text.as_bytes();
-    let first = first_byte(bytes)?;
-    if is_blank(first) {
-        plain_space(bytes)
-    } else if begins_word(first) {
-        plain_letter(first, text, after(bytes, 1), edition)
-    } else if is_alone(first) {
-        Some((sign_kind(first), after(bytes, 1).len()))
-    } else {
-        None
-    }
 }
