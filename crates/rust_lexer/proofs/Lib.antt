@@ -11,3 +11,4 @@ pub mod NameFronts
 pub mod QuoteFronts
 mod Bytes
 mod Plain
+mod Counts

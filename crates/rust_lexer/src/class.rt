@@ -1,9 +1,9 @@
 //! Classes of bytes and characters, and the longest prefix of a text in one.
-ghost use Rattle.std.specs.Prelude.{◌≡◌, ◌≤◌, length, slice_get, drop};
+ghost use Rattle.std.specs.Prelude.{◌≡◌, ◌≤◌, ◌<◌, true, length, slice_get, drop};
 ghost use Rattle.bstr.specs.Utf8.{decoded};
 ghost use Rattle.rust_lexer.specs.declared.class.Class.TheVariants as classes;
 ghost use Rattle.rust_lexer.specs.Fast.{begins_word_of, is_prefix_of, is_alone_of};
-ghost use Rattle.rust_lexer.specs.Classes.{is_letter_of, is_digit_of, is_hex_digit_of, is_in_of, is_space_of, is_name_start_of, is_name_continue_of, is_emoji_of, is_wide_of, skip_of, begins_of, begins_digit_of, begins_beyond_of, begins_wide_of, skip_wide_of};
+ghost use Rattle.rust_lexer.specs.Classes.{test_on, is_letter_of, is_digit_of, is_hex_digit_of, is_in_of, is_space_of, is_name_start_of, is_name_continue_of, is_emoji_of, is_wide_of, skip_of, begins_of, begins_digit_of, begins_beyond_of, begins_wide_of, skip_wide_of};
 
 use bstr::decode_utf8;
 use unicode_ident::{is_xid_continue, is_xid_start};
@@ -227,6 +227,7 @@ pub fn skip(class: Class, bytes: &[u8]) -> &[u8]
 pub fn count(class: Class, bytes: &[u8]) -> usize
     ensures within { result ≤ length bytes.now }
     ensures rest { drop result bytes.now ≡ skip_of class bytes.now }
+    ensures some { test_on (is_in_of class) (slice_get bytes.now 0) ≡ true → 0 < result }
 {
     let mut len = 0;
     while len < bytes.len() && is_in(class, bytes[len]) {

@@ -1,5 +1,7 @@
 //! Names and keywords.
-ghost use Rattle.std.specs.Prelude.{◌≡◌, ◌-◌, IfSome, length};
+ghost use Rattle.rust_lexer.specs.declared.class.Class.TheVariants as classes;
+ghost use Rattle.rust_lexer.specs.Classes.{test_on, is_in_of};
+ghost use Rattle.std.specs.Prelude.{◌≡◌, true, slice_get, ◌-◌, IfSome, length};
 ghost use Rattle.rust_lexer.specs.Cuts.{IsEnd};
 ghost use Rattle.rust_lexer.specs.Shapes.{plain_of};
 ghost use Rattle.rust_lexer.specs.Names.{begins_name_of, begins_emoji_of, skip_name_of, skip_suffix_of, emoji_name_of, word_kind_of, prefix_of, name_of, begins_wide_name_of, is_literal_mark_of, begins_wide_emoji_of};
@@ -150,6 +152,7 @@ pub fn name(text: &str, edition: Edition) -> Shape
 /// character past ASCII, a quote or a `#`.
 #[inline(always)]
 pub fn plain_name(text: &str, edition: Edition) -> Option<(SyntaxKind, usize)>
+    requires { test_on (is_in_of classes.Name) (slice_get text.now 0) ≡ true }
     ensures name { IfSome result
         (λ r. name_of edition text.now ≡ plain_of r.0 (length text.now - r.1)) }
     ensures end { IfSome result (λ r. IsEnd text.now r.1) }
@@ -157,7 +160,7 @@ pub fn plain_name(text: &str, edition: Edition) -> Option<(SyntaxKind, usize)>
     let bytes = text.as_bytes();
     let len = count(Class::Name, bytes);
     let rest = after(bytes, len);
-    if len == 0 || begins_beyond(rest) || is_literal_mark(rest) {
+    if begins_beyond(rest) || is_literal_mark(rest) {
         return None;
     }
     let (word, _) = text.split_at(len);

@@ -1,5 +1,7 @@
 //! The first token of a text.
-ghost use Rattle.std.specs.Prelude.{◌≡◌, ◌-◌, IfSome, drop, length};
+ghost use Rattle.rust_lexer.specs.declared.class.Class.TheVariants as classes;
+ghost use Rattle.rust_lexer.specs.Classes.{test_on, is_in_of};
+ghost use Rattle.std.specs.Prelude.{◌≡◌, true, slice_get, ◌-◌, IfSome, drop, length};
 ghost use Rattle.rust_lexer.specs.Cuts.{IsEnd};
 ghost use Rattle.syntax_kind.specs.declared.syntax_kind.SyntaxKind.TheVariants.{Token};
 ghost use Rattle.syntax_kind.specs.declared.syntax_kind.token_kind.TokenKind.TheVariants as token;
@@ -218,13 +220,14 @@ fn opens_literal(first: u8, rest: &[u8]) -> bool
 /// The length of white space in ASCII that begins the text, unless a character past ASCII follows.
 #[inline(always)]
 pub fn plain_space(text: &str) -> Option<usize>
+    requires { test_on (is_in_of classes.Space) (slice_get text.now 0) ≡ true }
     ensures space { IfSome result (λ n. space_of text.now
         ≡ plain_of (Token token.WHITESPACE) (length text.now - n)) }
     ensures end { IfSome result (λ n. IsEnd text.now n) }
 {
     let bytes = text.as_bytes();
     let len = count(Class::Space, bytes);
-    if len == 0 || begins_beyond(after(bytes, len)) {
+    if begins_beyond(after(bytes, len)) {
         None
     } else {
         Some(len)
@@ -235,6 +238,7 @@ pub fn plain_space(text: &str) -> Option<usize>
 /// `first`.
 #[inline(always)]
 pub fn plain_letter(first: u8, text: &str, edition: Edition) -> Option<(SyntaxKind, usize)>
+    requires { test_on (is_in_of classes.Name) (slice_get text.now 0) ≡ true }
     ensures letter { IfSome result (λ r. letter_of edition first text.now (drop 1 text.now)
         ≡ plain_of r.0 (length text.now - r.1)) }
     ensures end { IfSome result (λ r. IsEnd text.now r.1) }
