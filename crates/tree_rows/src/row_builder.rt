@@ -31,7 +31,6 @@ pub struct RowBuilder {
 }
 
 impl Model for RowBuilder {
-    ghost use Rattle.tree_rows.specs.Heads.{step_of};
     ghost use Rattle.tree_rows.specs.Making.{Making, making, making_code};
 
     ghost Value = { Making };
