@@ -22,7 +22,7 @@ class Proofs:
 
     def __init__(self, crates, say):
         self.crates, self.say, self.digests = crates, say, {}
-        self.kit = os.path.dirname(os.path.dirname(os.path.realpath(shutil.which("rt"))))
+        self.kit = repository.kit()
 
     def kept(self, name):
         """Where the library of a crate is kept."""
@@ -50,7 +50,7 @@ class Proofs:
         shutil.rmtree(place, ignore_errors=True)
         os.makedirs(place)
         to = os.path.join(place, f"{name}.{'o' if is_program else 'rlib'}")
-        words = repository.build_words(self.kit, self.crates, name, self.kept)
+        words = repository.build_words(self.crates, name, self.kept)
         words += ["--toolchain", os.path.join(self.kit, "toolchain"), "--backend", "llvm"] if is_program else ["--statements"]
         status, text, _ = repository.call([*words, "-o", to], self.crates.folder(name), text=True)
         verdict = re.search(r"(?m)^logic=proved .*", text)
