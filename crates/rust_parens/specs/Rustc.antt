@@ -54,6 +54,11 @@ abbrev pub is_pair_at : Option Cursor → Bool
 is_pair_at None = false
 is_pair_at (Some c) = is_of_kind PAREN_EXPR c
 
+-- the `)` of a pair, which may go too
+abbrev pub is_pair_end : Option Cursor → Bool
+is_pair_end None = false
+is_pair_end (Some token) = is_of_kind R_PAREN token && is_pair_at (parent_of token)
+
 -- a comma, a semicolon or a closing bracket, but for that of a pair, which may go too
 abbrev pub is_end : Option Cursor → Bool
 is_end None = false
@@ -171,10 +176,11 @@ abbrev pub is_word_token : Option Cursor → Bool
 is_word_token None = false
 is_word_token (Some token) = begins_with_word (slice_get (text (focus token)) 0)
 
+-- before a word, or before the end of a pair behind which there may be one
 abbrev pub is_before_word : Cursor → Bool
-is_before_word pair = is_word_token (token_after pair)
+is_before_word pair = is_word_token (token_after pair) || is_pair_end (token_after pair)
 
--- `continue` before a word, which would be its label; of pairs in pairs, whatever follows
+-- `continue` before such a word, which would be its label; of pairs in pairs, whatever follows
 abbrev pub is_before_label : Cursor → Cursor → Cursor → Bool
 is_before_label inside parent pair = is_of_kind CONTINUE_EXPR inside && (is_of_kind PAREN_EXPR parent || is_before_word pair)
 

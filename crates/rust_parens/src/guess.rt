@@ -3,9 +3,7 @@
 //! they go if all were guessed to go.
 ghost use Rattle.std.specs.Prelude.{◌≤◌, length, IfOk};
 
-use crate::find::is_needed_outside;
 use lossless_tree::{SyntaxElement, SyntaxNode, TextSize, WalkEvent};
-use ras_node::support::share;
 use ras_parsing::Parse;
 use rust_report::{Difference, Trivia, differences, is_pair};
 use std::alloc::{AllocError, Global};
@@ -19,9 +17,6 @@ const BORNE: usize = 8;
 /// Which pairs of a list are guessed to stay.
 #[derive(Drop)]
 pub(crate) struct Guess {
-    // One for each pair: whether its contents need parentheses in place of all pairs directly
-    // around it.
-    needed: Vec<bool>,
     // One for each pair: whether a difference of two trees led to it.
     seen: Vec<bool>,
     // How many pairs stayed by a plan, and how many that a plan kept could be removed.
@@ -32,15 +27,10 @@ pub(crate) struct Guess {
 }
 
 impl Guess {
-    /// The guess before the first parse.
-    pub(crate) fn new(alloc: Global, pairs: &[SyntaxNode]) -> Result<Guess, AllocError> {
-        let mut needed = Vec::new(alloc);
-        for pair in pairs {
-            needed.push(is_needed_outside(pair))?;
-        }
+    /// The guess for so many pairs before the first parse: all go.
+    pub(crate) fn new(alloc: Global, pairs: usize) -> Result<Guess, AllocError> {
         Ok(Guess {
-            needed,
-            seen: vec![in alloc; false; pairs.len()]?,
+            seen: vec![in alloc; false; pairs]?,
             right: 0,
             wrong: 0,
             step: 0,
@@ -48,7 +38,7 @@ impl Guess {
     }
 
     fn stays(&self, at: usize) -> bool {
-        matches!(self.needed.get(at), Some(true)) || matches!(self.seen.get(at), Some(true))
+        matches!(self.seen.get(at), Some(true))
     }
 
     /// For each of the last `len` pairs whether it is guessed to stay.
@@ -57,7 +47,7 @@ impl Guess {
         ensures some { IfOk result (λ stays. 1 ≤ length stays.items) }
         ensures within { IfOk result (λ stays. length stays.items ≤ len) }
     {
-        let first = self.needed.len().saturating_sub(len);
+        let first = self.seen.len().saturating_sub(len);
         let mut stays = Vec::new(alloc);
         stays.push(self.stays(first))?;
         while stays.len() < len {
@@ -90,7 +80,7 @@ impl Guess {
     /// Learns from the differences of the trees without the pairs that were guessed to be
     /// removable, of the last pairs `rest`. Returns whether a further pair is now guessed to stay.
     pub(crate) fn learn(&mut self, rest: &[SyntaxNode], apart: &[Difference]) -> bool {
-        let first = self.needed.len().saturating_sub(rest.len());
+        let first = self.seen.len().saturating_sub(rest.len());
         let mut is_new = false;
         for difference in apart {
             let Some(index) = suspect(rest, difference) else {

@@ -386,7 +386,7 @@ pub fn find_needless_among<F: FrontEnd>(
         edition,
         old,
     };
-    let mut guess = Guess::new(alloc, candidates.as_slice())?;
+    let mut guess = Guess::new(alloc, candidates.len())?;
     let mut found = Vec::new(alloc);
     let mut tried = Vec::new(alloc);
     let mut text = None;

@@ -1,7 +1,7 @@
 //! Pairs that rustc needs, although rust-analyzer's parser reads the same tree without them.
 ghost use Rattle.std.specs.Prelude.{◌≡◌};
 ghost use Rattle.tree_model.specs.Cursor.{ancestors_of};
-ghost use Rattle.rust_parens.specs.Rustc.{holds_statement, is_in_statement, is_statement_macro, is_full_range, is_block, is_without_block, token_after, is_pair_at, is_end, is_open_closure, is_else, is_lazy_token, is_lazy, is_closing_brace, is_plain_value, is_before_else, token_before, is_with_block, is_plain_start, is_plain_block, is_statement, is_expression_statement, is_macro_statement, is_item, is_ended, is_ended_at, body_of, ends_statement, is_open_brace, is_after_brace, begins_with_word, is_word_token, is_before_word, is_before_label, assigns, is_assigned_range, is_read_otherwise, is_needed_by_rustc};
+ghost use Rattle.rust_parens.specs.Rustc.{holds_statement, is_in_statement, is_statement_macro, is_full_range, is_block, is_without_block, token_after, is_pair_at, is_pair_end, is_end, is_open_closure, is_else, is_lazy_token, is_lazy, is_closing_brace, is_plain_value, is_before_else, token_before, is_with_block, is_plain_start, is_plain_block, is_statement, is_expression_statement, is_macro_statement, is_item, is_ended, is_ended_at, body_of, ends_statement, is_open_brace, is_after_brace, begins_with_word, is_word_token, is_before_word, is_before_label, assigns, is_assigned_range, is_read_otherwise, is_needed_by_rustc};
 
 use crate::place::is_assignment;
 use crate::text::is_word;
@@ -73,6 +73,18 @@ fn is_pair_at(node: Option<SyntaxNode>) -> bool
     match node {
         None => false,
         Some(node) => is_of_kind(&node, SyntaxKind::PAREN_EXPR),
+    }
+}
+
+// The `)` of a pair, which may go too.
+fn is_pair_end(token: Option<SyntaxToken>) -> bool
+    ensures { result ≡ is_pair_end token }
+{
+    match token {
+        None => false,
+        Some(token) => {
+            is_token_of_kind(&token, SyntaxKind::R_PAREN) && is_pair_at(token.parent())
+        }
     }
 }
 
@@ -311,11 +323,11 @@ fn is_word_token(token: Option<SyntaxToken>) -> bool
 fn is_before_word(pair: &SyntaxNode) -> bool
     ensures { result ≡ is_before_word pair.now }
 {
-    is_word_token(token_after(pair))
+    is_word_token(token_after(pair)) || is_pair_end(token_after(pair))
 }
 
-// In `(continue) as u8`, rustc reads `as` as a label if there are no parentheses. Of pairs in pairs
-// the innermost stays.
+// In `(continue) as u8`, rustc reads `as` as a label if there are no parentheses, and so it does in
+// `(-(continue)) as u8` if there is neither pair. Of pairs in pairs the innermost stays.
 fn is_before_label(inside: &SyntaxNode, parent: &SyntaxNode, pair: &SyntaxNode) -> bool
     ensures { result ≡ is_before_label inside.now parent.now pair.now }
 {
@@ -354,12 +366,13 @@ fn is_read_otherwise(inside: &SyntaxNode, parent: &SyntaxNode, pair: &SyntaxNode
 
 /// Whether the contents of a pair are of a kind that rustc may read otherwise without the pair,
 /// although rust-analyzer's parser reads the same tree: a macro call as a statement or at the end
-/// of a block, `continue` before a word, `_`, a range without ends, a range to which something is
-/// assigned, a closure whose body is not a block (unless a comma, a bracket that is not a pair's,
-/// or a semicolon follows the pair), everything before an `else` but a whole value that is neither
-/// `&&` nor `||` nor ends with `}`, and everything after a `}` that does not end a statement for
-/// rustc, as that of `async {}`: it does at the end of a block, an `unsafe` block, an `if`, a
-/// `match`, a loop, an item or a macro call. Some of these pairs can be removed all the same.
+/// of a block, `continue` before a word or the end of another pair, `_`, a range without ends, a
+/// range to which something is assigned, a closure whose body is not a block (unless a comma, a
+/// bracket that is not a pair's, or a semicolon follows the pair), everything before an `else` but
+/// a whole value that is neither `&&` nor `||` nor ends with `}`, and everything after a `}` that
+/// does not end a statement for rustc, as that of `async {}`: it does at the end of a block, an
+/// `unsafe` block, an `if`, a `match`, a loop, an item or a macro call. Some of these pairs can be
+/// removed all the same.
 pub fn is_needed_by_rustc(inside: &SyntaxNode, parent: &SyntaxNode, pair: &SyntaxNode) -> bool
     ensures { result ≡ is_needed_by_rustc inside.now parent.now pair.now }
 {

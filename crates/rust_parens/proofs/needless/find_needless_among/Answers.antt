@@ -9,8 +9,8 @@ use Rattle.rust_parens.proofs.needless.find_needless_among.Goals as goal
 pub loop-trial-preserved : goal.loop-trial-preserved
 loop-trial-preserved g c =
     let front : Front = g.F.FrontEnd.answers c.args.front.now in
-    let rest : List Cursor = take (length c.deref.result.now - c.len-in-loop-trial-2.result) (drop c.len-in-loop-trial-2.result c.deref.result.now) in
-    let left : rest ≡ drop (length c.loop-trial.tried.items) c.args.candidates.items = rest_of c.len-in-loop-trial-2.result c.deref.result.now ∙ ap₂ drop (c.len-in-loop-trial-2.ensures ∙ c.loop-trial.tried.ok.0) (c.deref.ensures.value ∙ c.loop-trial.invariant.1) in
+    let rest : List Cursor = take (length c.deref.result.now - c.len-in-loop-trial-3.result) (drop c.len-in-loop-trial-3.result c.deref.result.now) in
+    let left : rest ≡ drop (length c.loop-trial.tried.items) c.args.candidates.items = rest_of c.len-in-loop-trial-3.result c.deref.result.now ∙ ap₂ drop (c.len-in-loop-trial-3.ensures ∙ c.loop-trial.tried.ok.0) (c.deref.ensures.value ∙ c.loop-trial.invariant.1) in
     let more : List Tried = c.in_ok-run.run'.tried.items in
     let found_is : c.add_chosen.new.found.items ≡ c.loop-trial.found.items ++ chosen more = c.in_ok-add_chosen.ensures ∙ ap (λ k. c.loop-trial.found.items ++ chosen k) c.as_slice-more.ensures.value in
     let tried_is : c.add_tried.new.tried.items ≡ c.loop-trial.tried.items ++ more = c.in_ok-add_tried.ensures ∙ ap (λ k. c.loop-trial.tried.items ++ k) c.as_slice-more.ensures.value in
