@@ -1,2 +1,3 @@
 pub mod Manifest
+pub mod Paths
 pub mod Targets

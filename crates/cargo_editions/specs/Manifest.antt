@@ -1,9 +1,9 @@
 -- What a Cargo manifest says of an edition. (The Cargo Book: "The Manifest Format", "The edition
 -- field"; "Workspaces", "The package table".)
-use Rattle.std.specs.Prelude.{◌≡◌, ℕ, Bool, true, false, List, [], codes, Option, Some, None, if◌then◌else◌}
+use Rattle.std.specs.Prelude.{ℕ, Bool, true, List, codes, Option, Some, None, if◌then◌else◌}
 use Rattle.std.specs.Cmp.Lexicographic.{pointwise}
 use Rattle.std.specs.Prelude.{◌==◌}
-use Rattle.std.specs.Option.{option_and_then, option_map_or}
+use Rattle.std.specs.Option.{option_or, option_and_then, option_map_or}
 use Rattle.toml.specs.Data.{Data, get, as_str, as_bool}
 use Rattle.ras_front_end.specs.declared.edition.Edition.{Edition}
 use Rattle.ras_front_end.specs.declared.edition.Edition.TheVariants.{Edition2015, Edition2018, Edition2021, Edition2024}
@@ -36,9 +36,13 @@ stated_by None d = as_inherited (option_and_then as_bool (get (codes "workspace"
 abbrev pub edition_field : Data → Stated
 edition_field d = stated_by (as_str d) d
 
+-- the table `package`, or `project`, its old name
+abbrev pub package_of : Data → Option Data
+package_of d = option_or (get (codes "package") d) (get (codes "project") d)
+
 -- a package without an edition is one of 2015
 abbrev pub package_edition : Data → Stated
-package_edition d = option_map_or (λ p. option_map_or edition_field (get (codes "edition") p) (says.Edition Edition2015)) (get (codes "package") d) says.Nothing
+package_edition d = option_map_or (λ p. option_map_or edition_field (get (codes "edition") p) (says.Edition Edition2015)) (package_of d) says.Nothing
 
 abbrev pub workspace_of : Data → Option Data
 workspace_of d = get (codes "workspace") d

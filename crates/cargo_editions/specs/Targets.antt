@@ -1,14 +1,16 @@
 -- The edition of a target. (The Cargo Book: "Cargo Targets", "Configuring a target".)
-use Rattle.std.specs.Prelude.{ℕ, Bool, false, List, [], codes, Option, Some, None, if◌then◌else◌}
-use Rattle.std.specs.Option.{option_and_then, option_map_or}
+use Rattle.std.specs.Prelude.{ℕ, Bool, false, List, codes, Option, Some, None, if◌then◌else◌}
+use Rattle.std.specs.Option.{option_or, option_and_then, option_map_or}
 use Rattle.toml.specs.Data.{Data, Items, no_items, item, get, as_str, as_array}
 use Rattle.cargo_editions.specs.declared.manifest.Stated.{Stated}
 use Rattle.cargo_editions.specs.declared.manifest.Stated.TheVariants as says
-use Rattle.cargo_editions.specs.Manifest.{is_text, edition_field}
+use Rattle.cargo_editions.specs.Manifest.{edition_field}
+use Rattle.cargo_editions.specs.Paths.{is_same}
 
 -- a target is at this path, by its field `path`, or by a default
 abbrev pub is_at : Option (List ℕ) → List ℕ → Data → Bool
-is_at default path d = option_map_or (λ p. option_map_or (is_text path) (as_str p) false) (get (codes "path") d) (option_map_or (is_text path) default false)
+is_at default path d =
+    option_map_or (λ p. option_map_or (is_same path) (as_str p) false) (get (codes "path") d) (option_map_or (is_same path) default false)
 
 -- what a target says of its edition
 abbrev pub own_edition : Data → Stated
@@ -27,15 +29,11 @@ listed_at field path d = option_and_then (first_at path) (option_and_then as_arr
 abbrev pub library_at : List ℕ → Data → Option Data
 library_at path d = option_and_then (λ t. if is_at (Some (codes "src/lib.rs")) path t then Some t else None) (get (codes "lib") d)
 
-abbrev pub or_else : Option Data → Option Data → Option Data
-or_else (Some d) e = Some d
-or_else None e = e
-
 -- the target at this path: the library, else the first of the programs, examples, tests and benches
 abbrev pub target_at : List ℕ → Data → Option Data
 target_at path d =
-    or_else (library_at path d) (or_else (listed_at (codes "bin") path d) (or_else (listed_at (codes "example") path d)
-    (or_else (listed_at (codes "test") path d) (listed_at (codes "bench") path d))))
+    option_or (library_at path d) (option_or (listed_at (codes "bin") path d) (option_or (listed_at (codes "example") path d)
+    (option_or (listed_at (codes "test") path d) (listed_at (codes "bench") path d))))
 
 abbrev pub target_edition : List ℕ → Data → Stated
 target_edition path d = option_map_or own_edition (target_at path d) says.Nothing

@@ -4,6 +4,7 @@
 #![tactic(auto)]
 
 mod manifest;
+mod paths;
 mod targets;
 
 pub use manifest::{Stated, edition_named, is_workspace, of_package, of_workspace};

@@ -1,7 +1,7 @@
 //! The edition of a package and of a workspace.
 ghost use Rattle.std.specs.Prelude.{◌≡◌, ◌↔◌, IsTrue, option_map, is_some};
 ghost use Rattle.toml.specs.View.{view};
-ghost use Rattle.cargo_editions.specs.Manifest.{edition_named, edition_field, package_edition, workspace_edition, workspace_of};
+ghost use Rattle.cargo_editions.specs.Manifest.{edition_named, edition_field, package_of, package_edition, workspace_edition, workspace_of};
 
 use ras_front_end::Edition;
 use toml::Value;
@@ -52,8 +52,17 @@ pub(crate) fn edition_field(edition: &Value) -> Stated
     }
 }
 
+// The package of a manifest: its table `package`, or `project`, the old name that cargo still reads
+// before edition 2024.
+fn package_of(manifest: &Value) -> Option<&Value>
+    ensures { option_map (λ p. view p.now) result ≡ package_of (view manifest.now) }
+{
+    manifest.get("package").or(manifest.get("project"))
+}
+
 /// What a manifest says of the edition of its package. A package without the field `edition` is one
-/// of 2015. `Nothing` if the manifest has no package.
+/// of 2015. `Nothing` if the manifest has no package. If it has no table `package`, its package is
+/// the table `project`, as in old manifests.
 ///
 /// ```text
 /// [package]
@@ -63,7 +72,7 @@ pub(crate) fn edition_field(edition: &Value) -> Stated
 pub fn of_package(manifest: &Value) -> Stated
     ensures { result ≡ package_edition (view manifest.now) }
 {
-    match manifest.get("package") {
+    match package_of(manifest) {
         None => Stated::Nothing,
         Some(package) => match package.get("edition") {
             None => Stated::Edition(Edition::Edition2015),

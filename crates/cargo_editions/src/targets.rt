@@ -4,6 +4,7 @@ ghost use Rattle.toml.specs.View.{view, items_view};
 ghost use Rattle.cargo_editions.specs.Targets.{is_at, own_edition, first_at, listed_at, library_at, target_at, target_edition};
 
 use crate::manifest::{Stated, edition_field};
+use crate::paths::is_same;
 use toml::Value;
 
 // Whether a target is at a path, by its field `path`, or by a default.
@@ -12,11 +13,11 @@ fn is_at(default: Option<&str>, path: &str, target: &Value) -> bool
 {
     match target.get("path") {
         Some(own) => match own.as_str() {
-            Some(own) => path == own,
+            Some(own) => is_same(path, own),
             None => false,
         },
         None => match default {
-            Some(default) => path == default,
+            Some(default) => is_same(path, default),
             None => false,
         },
     }
@@ -94,9 +95,10 @@ fn target_at<'a>(path: &str, manifest: &'a Value) -> Option<&'a Value>
 }
 
 /// What a manifest says of the edition of the target whose root is the file at `path`: one with a
-/// field `path` that is this text, or the library, which is at `src/lib.rs` if its manifest names
-/// no other path. Paths are relative to the folder of the manifest. `Nothing` if there is no such
-/// target, or if it says nothing of an edition.
+/// field `path` that is this path, also as `./tests/old.rs` or `tests//old.rs`, or the library,
+/// which is at `src/lib.rs` if its manifest names no other path. Paths are relative to the folder
+/// of the manifest; `..` in them is not followed. `Nothing` if there is no such target, or if it
+/// says nothing of an edition.
 ///
 /// ```text
 /// [[test]]

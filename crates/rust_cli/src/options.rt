@@ -90,6 +90,18 @@ fn split_glob(glob: &str) -> (&str, bool) {
     }
 }
 
+// What a glob says. `./a` is `/a`, the `a` of the current folder.
+fn glob_rule(alloc: Global, glob: &str) -> Result<Rule, AllocError> {
+    match glob.strip_prefix("./") {
+        Some(rest) => {
+            let rest = rest.trim_start_matches("./").trim_start_matches('/');
+            let anchored = format!(in alloc; "/{rest}")?;
+            rule_of(alloc, anchored.as_bytes())
+        }
+        None => rule_of(alloc, glob.as_bytes()),
+    }
+}
+
 // Adds the rule of a glob. In an ignore file `!` is before what is kept, on the command line before
 // what is left out.
 fn push_glob(
@@ -98,7 +110,7 @@ fn push_glob(
     glob: &str,
     is_left_out: bool,
 ) -> Result<(), AllocError> {
-    let mut rule = rule_of(alloc, glob.as_bytes())?;
+    let mut rule = glob_rule(alloc, glob)?;
     rule.is_negated = !is_left_out;
     globs.rules.push(rule)?;
     globs.has_wanted = globs.has_wanted || !is_left_out;

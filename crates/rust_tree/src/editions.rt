@@ -53,6 +53,34 @@ fn path_in(alloc: Global, folder: &str, file: &str) -> io::Result<String> {
     Ok(format!(in alloc; "{folder}{slash}{file}")?)
 }
 
+// The real path of a folder. Of one that is not there, as in the path of a new file, it is that of
+// the nearest one around it that is, with the rest as it is named.
+fn real_path(rt: &HostRuntime, named: &str) -> io::Result<Option<String>> {
+    let mut folder = named;
+    let mut rest = "";
+    for _turn in 0..=named.len() {
+        if let Ok(real) = fs::canonicalize(rt, folder) {
+            let real = if rest.is_empty() {
+                String::from_str(rt.alloc(), real.as_str())?
+            } else {
+                path_in(rt.alloc(), real.as_str(), rest)?
+            };
+            return Ok(Some(real));
+        }
+        let around = folder_of(folder);
+        rest = if folder.contains('/') {
+            named
+                .get(around.len()..)
+                .unwrap_or("")
+                .trim_start_matches('/')
+        } else {
+            named
+        };
+        folder = around;
+    }
+    Ok(None)
+}
+
 // The manifest of a folder, if it has one. One that cannot be read is reported; then the next one
 // above counts.
 fn manifest_in(rt: &HostRuntime, folder: &str) -> io::Result<Option<Value>> {
@@ -196,12 +224,12 @@ impl Manifests {
                 return Ok(true);
             }
         }
-        let Ok(real) = fs::canonicalize(rt, named) else {
+        let Some(real) = real_path(rt, named)? else {
             return Ok(false);
         };
         self.last = Some(Folder {
             named: String::from_str(self.alloc, named)?,
-            real: String::from_str(self.alloc, real.as_str())?,
+            real,
         });
         Ok(true)
     }

@@ -56,8 +56,8 @@ fn name_below(rt: &HostRuntime, name: &str) -> io::Result<Option<String>> {
     }
 }
 
-// What follows the path of a folder in the path of what is below it.
-fn path_below<'a>(folder: &str, path: &'a str) -> Option<&'a str> {
+/// What follows the path of a folder in the path of what is below it.
+pub fn path_below<'a>(folder: &str, path: &'a str) -> Option<&'a str> {
     if folder == "/" {
         return path.strip_prefix("/");
     }

@@ -1,5 +1,6 @@
 //! The files that a command line names.
 
+use crate::fix::path_below;
 use crate::ignores::{Ignores, Level};
 use gitignore::{Verdict, verdict_of};
 use rust_cli::options::{Globs, Search};
@@ -77,6 +78,8 @@ struct Walk {
     // The real path of the folder that is searched, and the length of the path that names it.
     root: String,
     named: usize,
+    // The real path of the folder that the program runs in.
+    current: String,
     ignores: Ignores,
     // The real paths of the folders that were searched, if links are followed: a link may lead to a
     // folder around it.
@@ -85,18 +88,23 @@ struct Walk {
     lost: u64,
 }
 
-// What globs of the command line say of a path.
+// What globs of the command line say of a path that has two names. What they leave out by one of
+// the two is left out.
 fn by_globs(
     alloc: Global,
     globs: &Globs,
-    path: &str,
+    names: (&str, &str),
     is_folder: bool,
 ) -> Result<Verdict, AllocError> {
-    let path = path.strip_prefix("./").unwrap_or(path);
-    match verdict_of(alloc, globs.rules.as_slice(), path.as_bytes(), is_folder)? {
-        Verdict::Unnamed if globs.has_wanted && !is_folder => Ok(Verdict::Ignored),
-        verdict => Ok(verdict),
-    }
+    let rules = globs.rules.as_slice();
+    let first = verdict_of(alloc, rules, names.0.as_bytes(), is_folder)?;
+    let second = verdict_of(alloc, rules, names.1.as_bytes(), is_folder)?;
+    Ok(match (first, second) {
+        (Verdict::Ignored, _) | (_, Verdict::Ignored) => Verdict::Ignored,
+        (Verdict::Kept, _) | (_, Verdict::Kept) => Verdict::Kept,
+        _ if globs.has_wanted && !is_folder => Verdict::Ignored,
+        _ => Verdict::Unnamed,
+    })
 }
 
 impl Walk {
@@ -105,6 +113,23 @@ impl Walk {
         let root = self.root.as_str().trim_end_matches('/');
         let inside = path.get(self.named..).unwrap_or("").trim_start_matches('/');
         Ok(format!(in alloc; "{root}/{inside}")?)
+    }
+
+    // The two names by which globs of the command line know what is below the folder that is
+    // searched. The first is that of ripgrep: the path, or what follows the current folder in it.
+    // The second is the path from the current folder on, or, outside of that, from the folder that
+    // is searched on: `src/gen/` is also for `../other/src/gen/`.
+    fn names<'a>(&self, path: &'a str, real: &'a str) -> (&'a str, &'a str) {
+        let current = self.current.as_str();
+        let named = match path_below(current, path) {
+            Some(below) => below,
+            None => path.strip_prefix("./").unwrap_or(path),
+        };
+        let below = match path_below(current, real) {
+            Some(below) => below,
+            None => path_below(self.root.as_str(), real).unwrap_or(named),
+        };
+        (named, below)
     }
 
     // Whether an entry of a folder is left out. A glob of the command line goes before an ignore
@@ -118,13 +143,14 @@ impl Walk {
         search: Search,
         globs: &Globs,
     ) -> io::Result<bool> {
-        match by_globs(rt.alloc(), globs, path.as_str(), is_folder)? {
+        let real = self.real(rt.alloc(), path.as_str())?;
+        let names = self.names(path.as_str(), real.as_str());
+        match by_globs(rt.alloc(), globs, names, is_folder)? {
             Verdict::Ignored => return Ok(true),
             Verdict::Kept => return Ok(false),
             Verdict::Unnamed => {}
         }
         if !search.no_ignore {
-            let real = self.real(rt.alloc(), path.as_str())?;
             match self
                 .ignores
                 .verdict(rt.alloc(), level, real.as_str(), is_folder)?
@@ -248,6 +274,11 @@ pub fn files_below(
 ) -> io::Result<Vec<String>> {
     let alloc = rt.alloc();
     let root = String::from_str(alloc, fs::canonicalize(rt, folder)?.as_str())?;
+    // Where the current folder was removed, it has no path.
+    let current = match fs::canonicalize(rt, ".") {
+        Ok(current) => String::from_str(alloc, current.as_str())?,
+        Err(_) => root.clone()?,
+    };
     let mut ignores = Ignores::new(alloc);
     let level = if search.no_ignore {
         Level::default()
@@ -260,6 +291,7 @@ pub fn files_below(
         folders: vec![in alloc; Todo { path, level }]?,
         root,
         named: folder.len(),
+        current,
         ignores,
         seen: BTreeSet::new(alloc),
         lost: 0,
