@@ -1,10 +1,11 @@
 -- Pairs of parentheses that may go.
-use Rattle.std.specs.Prelude.{Bool, false, not, ◌&&◌, ◌||◌, ◌==◌, if◌then◌else◌, List, [], ◌∷◌, Option, Some, None, option_map}
+use Rattle.std.specs.Prelude.{Bool, false, not, ◌&&◌, ◌||◌, ◌==◌, Option, Some, None, option_map}
+use Rattle.std.specs.List.{filter, find}
 use Rattle.std.specs.Option.{option_and_then}
 use Rattle.syntax_kind.specs.declared.syntax_kind.TheConstants.SyntaxKind.{PAREN_EXPR, L_PAREN, R_PAREN}
 use Rattle.text_size.specs.TextRange.{Bounds}
-use Rattle.tree_model.specs.Cursor.{Cursor, ancestors_of, parent_of, range_of, range_start}
-use Rattle.ras_node.specs.Nodes.{is_of_kind, typed_child, token_child}
+use Rattle.tree_model.specs.Cursor.{Cursor, at_node, descendants_of, parent_of, range_of, range_start}
+use Rattle.ras_node.specs.Nodes.{has_kind_in, is_of_kind, typed_child, token_child}
 use Rattle.ras_node.specs.Sets.{is_expr}
 use Rattle.ras_prec.specs.Rules.{asks}
 use Rattle.rust_parens.specs.Rustc.{is_needed_by_rustc}
@@ -15,24 +16,29 @@ abbrev pub parens_of : Cursor → Option (Bounds × Bounds)
 parens_of c =
     option_and_then (λ first. option_map (λ second. (range_of first, range_of second)) (token_child R_PAREN c)) (token_child L_PAREN c)
 
--- the expression needs parentheses in place of the last of the pairs that the nodes begin with,
--- below the node behind them; in place of `outer` if they begin with none
-abbrev pub asks_around : Cursor → Cursor → List Cursor → Bool
-asks_around inside outer [] = false
-asks_around inside outer (c ∷ cs) = if is_of_kind PAREN_EXPR c then asks_around inside c cs else asks inside c outer
+abbrev pub is_value : Cursor → Bool
+is_value c = has_kind_in is_expr c && not (is_of_kind PAREN_EXPR c)
 
--- of pairs in pairs the innermost, round an expression that needs one of them
-abbrev pub is_needed_outside : Cursor → Cursor → Cursor → Bool
-is_needed_outside inside parent pair =
-    is_of_kind PAREN_EXPR parent && (not (is_of_kind PAREN_EXPR inside) && asks_around inside pair (ancestors_of parent))
+-- the expression in the innermost of pairs directly in each other, of which this is the outermost
+abbrev pub innermost : Cursor → Option Cursor
+innermost pair = find is_value (filter at_node (descendants_of pair))
 
--- the expression needs no parentheses in place of the pair, below the pair's parent, nor in place
--- of all pairs directly around it, and is not one that rustc may read otherwise
+abbrev pub asks_for : Option Cursor → Cursor → Cursor → Bool
+asks_for None parent pair = false
+asks_for (Some value) parent pair = asks value parent pair
+
+-- of pairs in pairs the outermost, if what the innermost holds needs it
+abbrev pub is_needed_inside : Cursor → Cursor → Cursor → Bool
+is_needed_inside inside parent pair =
+    is_of_kind PAREN_EXPR inside && (not (is_of_kind PAREN_EXPR parent) && asks_for (innermost pair) parent pair)
+
+-- the expression needs no parentheses in place of the pair, below the pair's parent, nor does what
+-- further pairs directly in the pair hold, and it is not one that rustc may read otherwise
 abbrev pub may_go_from : Option Cursor → Option Cursor → Cursor → Bool
 may_go_from None parent pair = false
 may_go_from (Some inside) None pair = false
 may_go_from (Some inside) (Some parent) pair =
-    not (asks inside parent pair) && (not (is_needed_outside inside parent pair) && not (is_needed_by_rustc inside parent pair))
+    not (asks inside parent pair) && (not (is_needed_inside inside parent pair) && not (is_needed_by_rustc inside parent pair))
 
 abbrev pub inside_may_go : Cursor → Bool
 inside_may_go pair = may_go_from (typed_child is_expr pair) (parent_of pair) pair

@@ -1,12 +1,13 @@
 //! Pairs of parentheses that are needless by the tests of operators and statements.
 ghost use Rattle.std.specs.Prelude.{◌≡◌, IfOk};
 ghost use Rattle.std.specs.List.{filter};
-ghost use Rattle.tree_model.specs.Cursor.{ancestors_of, at_node, descendants_of};
-ghost use Rattle.rust_parens.specs.Pairs.{asks_around, is_needed_outside, may_go, contents_may_go, inside_may_go, is_bare, parens_of};
+ghost use Rattle.tree_model.specs.Cursor.{at_node, descendants_of};
+ghost use Rattle.rust_parens.specs.Pairs.{asks_for, innermost, is_needed_inside, is_value, may_go, contents_may_go, inside_may_go, is_bare, parens_of};
 
 use crate::patterns::pattern_may_go;
 use crate::rustc::is_needed_by_rustc;
 use lossless_tree::{SyntaxKind, SyntaxNode, TextRange};
+use ras_node::sets::{Exprs, KindSet};
 use ras_node::support;
 use ras_node::support::{is_of_kind, share};
 use ras_prec::rules::needs_parens_in_place_of;
@@ -22,30 +23,42 @@ pub fn parens_of(pair: &SyntaxNode) -> Option<(TextRange, TextRange)>
     Some((open.text_range(), close.text_range()))
 }
 
-// Whether an expression needs parentheses in place of the outermost of the pairs directly around
-// each other: that of a node and of its ancestors, or this one if the node is no pair.
-fn asks_around(inside: &SyntaxNode, pair: &SyntaxNode, parent: &SyntaxNode) -> bool
-    ensures { result ≡ asks_around inside.now pair.now (ancestors_of parent.now) }
+fn is_value(node: &SyntaxNode) -> bool
+    ensures { result ≡ is_value node.now }
 {
-    let mut outer = share(pair);
-    let mut around = parent.ancestors();
-    while let Some(node) = around.next() {
-        if !is_of_kind(&node, SyntaxKind::PAREN_EXPR) {
-            return needs_parens_in_place_of(inside, &node, &outer);
+    Exprs::has(node.kind()) && !is_of_kind(node, SyntaxKind::PAREN_EXPR)
+}
+
+// The expression in the innermost of pairs directly in each other, of which this is the outermost.
+fn innermost(pair: &SyntaxNode) -> Option<SyntaxNode>
+    ensures { result ≡ innermost pair.now }
+{
+    let mut nodes = pair.descendants();
+    while let Some(node) = nodes.next() {
+        if is_value(&node) {
+            return Some(node);
         }
-        outer = node;
     }
-    false
+    None
+}
+
+fn asks_for(value: Option<SyntaxNode>, parent: &SyntaxNode, pair: &SyntaxNode) -> bool
+    ensures { result ≡ asks_for value parent.now pair.now }
+{
+    match value {
+        None => false,
+        Some(value) => needs_parens_in_place_of(&value, parent, pair),
+    }
 }
 
 // `((a == b)) == c`: each of the two pairs is needless, but not both. Of pairs in pairs the
-// innermost stays, if what it holds needs one of them.
-fn is_needed_outside(inside: &SyntaxNode, parent: &SyntaxNode, pair: &SyntaxNode) -> bool
-    ensures { result ≡ is_needed_outside inside.now parent.now pair.now }
+// outermost stays, if what the innermost holds needs it.
+fn is_needed_inside(inside: &SyntaxNode, parent: &SyntaxNode, pair: &SyntaxNode) -> bool
+    ensures { result ≡ is_needed_inside inside.now parent.now pair.now }
 {
-    is_of_kind(parent, SyntaxKind::PAREN_EXPR)
-        && !is_of_kind(inside, SyntaxKind::PAREN_EXPR)
-        && asks_around(inside, pair, parent)
+    is_of_kind(inside, SyntaxKind::PAREN_EXPR)
+        && !is_of_kind(parent, SyntaxKind::PAREN_EXPR)
+        && asks_for(innermost(pair), parent, pair)
 }
 
 // Whether the contents of a pair need no parentheses in its place.
@@ -58,7 +71,7 @@ fn inside_may_go(pair: &SyntaxNode) -> bool
             None => false,
             Some(parent) => {
                 !needs_parens_in_place_of(&inside, &parent, pair)
-                    && !is_needed_outside(&inside, &parent, pair)
+                    && !is_needed_inside(&inside, &parent, pair)
                     && !is_needed_by_rustc(&inside, &parent, pair)
             }
         },
@@ -84,10 +97,10 @@ fn contents_may_go(node: &SyntaxNode) -> bool
 }
 
 /// Whether a node is a pair of parentheses, with both parentheses and without attributes, around an
-/// expression for which [`needs_parens_in_place_of`] returns false, also in place of all pairs that
-/// are directly around it, and that [`is_needed_by_rustc`] does not keep; or around a pattern, but
-/// for alternatives, ranges and `mut x` in places that do not take them, such as the `A | B` of
-/// `let (A | B) = c` and the `mut x` of `&(mut x)`.
+/// expression for which [`needs_parens_in_place_of`] returns false, and that [`is_needed_by_rustc`]
+/// does not keep; or around a pattern, but for alternatives, ranges and `mut x` in places that do
+/// not take them, such as the `A | B` of `let (A | B) = c` and the `mut x` of `&(mut x)`. Of pairs
+/// directly in each other, the outermost counts as one around what the innermost holds, too.
 ///
 /// That test covers operators and statements. If the pair is in something else, such as the arm of
 /// a `match`, only a parse of the text without the pair shows that it is needless.
