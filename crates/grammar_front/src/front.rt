@@ -1,7 +1,9 @@
 //! The front end of a lexer and a language.
-ghost use Rattle.std.specs.Prelude.{◌≡◌, ◌<◌, ◌^◌, nat_lt, IfOk, length, option_map, string_bytes};
+ghost use Rattle.std.specs.Prelude.{◌≡◌, ◌<◌, ◌^◌, nat_lt, IfOk, MatchOption, length, option_map, string_bytes};
+ghost use Rattle.ras_front_end.specs.Balanced.{IsBalanced};
 ghost use Rattle.ras_front_end.specs.Reading.{reading_of, single_of};
 ghost use Rattle.token_layout.specs.Laid.{IsCut};
+ghost use Rattle.grammar_front.specs.declared.language.Target.TheVariants.{Piece};
 ghost use Rattle.grammar_front.specs.Front.{size_of, expr_or_error_of, root_of, kinds_of, message_with, single_with, made_of, reading_with, nothing_read, whole_of, read_of};
 
 use crate::language::{Language, Target};
@@ -14,7 +16,7 @@ use ras_node::sets::Exprs;
 use std::alloc::{AllocError, Global};
 use syntax_kind::SyntaxKind;
 use text_size::TextSize;
-use token_layout::{Lexed, Lexer, Token};
+use token_layout::{Lexed, Lexer, Token, is_balanced};
 
 /// The front end of a lexer and a language. Whatever the language's tables say, a parse keeps the
 /// law of [`FrontEnd`]:
@@ -164,19 +166,47 @@ impl<L: Lexer, G: Language> GrammarFront<L, G> {
         alloc: Global,
         target: Target,
         text: &str,
+        lexed: Lexed,
         edition: Edition,
     ) -> Result<Output, AllocError>
+        requires tokens { lexed.tokens.items
+            ≡ (L.lexes self.now.lexer).tokens edition text.now }
+        requires errors { lexed.errors.items
+            ≡ (L.lexes self.now.lexer).errors edition text.now }
         ensures { length text.now < 2 ^ 32 → IfOk result (λ output. reading_of output
             ≡ whole_of (L.lexes self.now.lexer) (G.speaks self.now.language) target edition
             text.now) }
     {
-        let lexed = self.lexer.lex(alloc, text, edition)?;
         let events = events(alloc, &self.language, target, text, &lexed.tokens, edition)?;
         let output = assemble(alloc, &self.language, target, text, lexed, &events)?;
         Ok(output)
     }
 
+    // The output for a text of which these are the tokens.
     #[tactic(auto, unfolding(crate::specs::Front::read_of))]
+    fn read_lexed(
+        &self,
+        alloc: Global,
+        target: Target,
+        text: &str,
+        lexed: Lexed,
+        edition: Edition,
+    ) -> Result<Output, AllocError>
+        requires tokens { lexed.tokens.items
+            ≡ (L.lexes self.now.lexer).tokens edition text.now }
+        requires errors { lexed.errors.items
+            ≡ (L.lexes self.now.lexer).errors edition text.now }
+        ensures { IfOk result (λ output. reading_of output
+            ≡ read_of (L.lexes self.now.lexer) (G.speaks self.now.language) target edition
+            text.now) }
+    {
+        if is_short(text) {
+            self.whole(alloc, target, text, lexed, edition)
+        } else {
+            Ok(nothing(alloc))
+        }
+    }
+
     fn read(
         &self,
         alloc: Global,
@@ -188,11 +218,30 @@ impl<L: Lexer, G: Language> GrammarFront<L, G> {
             ≡ read_of (L.lexes self.now.lexer) (G.speaks self.now.language) target edition
             text.now) }
     {
-        if is_short(text) {
-            self.whole(alloc, target, text, edition)
-        } else {
-            Ok(nothing(alloc))
+        let lexed = self.lexer.lex(alloc, text, edition)?;
+        let output = self.read_lexed(alloc, target, text, lexed, edition)?;
+        Ok(output)
+    }
+
+    fn balanced_piece(
+        &self,
+        alloc: Global,
+        reparser: Reparser,
+        text: &str,
+        edition: Edition,
+    ) -> Result<Option<Output>, AllocError>
+        ensures { IfOk result (λ o. MatchOption o
+            (IsBalanced (kinds_of ((L.lexes self.now.lexer).tokens edition text.now)) → ⊥)
+            (λ output. IsBalanced (kinds_of ((L.lexes self.now.lexer).tokens edition text.now))
+            × (reading_of output ≡ read_of (L.lexes self.now.lexer) (G.speaks self.now.language)
+            (Piece reparser) edition text.now))) }
+    {
+        let lexed = self.lexer.lex(alloc, text, edition)?;
+        if !is_balanced(&lexed.tokens) {
+            return Ok(None);
         }
+        let target = Target::Piece(reparser);
+        Ok(Some(self.read_lexed(alloc, target, text, lexed, edition)?))
     }
 }
 
@@ -253,6 +302,16 @@ impl<L: Lexer, G: Language> FrontEnd for GrammarFront<L, G> {
         edition: Edition,
     ) -> Result<Output, AllocError> {
         self.read(alloc, Target::Piece(reparser), text, edition)
+    }
+
+    fn parse_balanced(
+        &self,
+        alloc: Global,
+        reparser: Reparser,
+        text: &str,
+        edition: Edition,
+    ) -> Result<Option<Output>, AllocError> {
+        self.balanced_piece(alloc, reparser, text, edition)
     }
 
     fn keyword(&self, text: &str, edition: Edition) -> Option<SyntaxKind> {

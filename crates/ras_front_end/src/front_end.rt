@@ -1,8 +1,10 @@
 //! The lexer and parser that the caller brings.
-ghost use Rattle.std.specs.Prelude.{◌≡◌, IfOk, option_map};
+ghost use Rattle.std.specs.Prelude.{◌≡◌, IfOk, MatchOption, option_map};
+ghost use Rattle.ras_front_end.specs.Balanced.{IsBalanced};
 ghost use Rattle.ras_front_end.specs.Reading.{IsGiven, reading_of, single_of};
 ghost use Rattle.ras_front_end.specs.Front.{Front, FrontEndKeeps};
 
+use crate::balanced::is_balanced;
 use crate::edition::{Edition, Entry, Reparser};
 use crate::output::Output;
 use crate::step_sink::{StepSink, give};
@@ -94,6 +96,30 @@ pub trait FrontEnd {
     ) -> Result<Output, AllocError>
         ensures { IfOk result
             (λ output. reading_of output ≡ (answers self.now).piece reparser edition text.now) };
+
+    /// Parses a piece, as [`parse_piece`](FrontEnd::parse_piece) does, if its braces balance: it
+    /// begins with `{`, and its last token is the `}` that closes it. `None` if they do not.
+    ///
+    /// This one lexes the text twice. A front end that parses the tokens that it has tested needs
+    /// to lex it only once.
+    fn parse_balanced(
+        &self,
+        alloc: Global,
+        reparser: Reparser,
+        text: &str,
+        edition: Edition,
+    ) -> Result<Option<Output>, AllocError>
+        ensures { IfOk result (λ o. MatchOption o
+            (IsBalanced ((answers self.now).lexed edition text.now) → ⊥)
+            (λ output. IsBalanced ((answers self.now).lexed edition text.now)
+            × (reading_of output ≡ (answers self.now).piece reparser edition text.now))) }
+    {
+        let kinds = self.lex(alloc, text, edition)?;
+        if !is_balanced(&kinds) {
+            return Ok(None);
+        }
+        Ok(Some(self.parse_piece(alloc, reparser, text, edition)?))
+    }
 
     /// The kind of a text that is a keyword in the edition, or `None` if it is not one.
     fn keyword(&self, text: &str, edition: Edition) -> Option<SyntaxKind>

@@ -2,6 +2,7 @@
 //! report.
 #![tactic(auto)]
 
+mod balanced;
 mod edition;
 mod front_end;
 mod output;
@@ -10,6 +11,7 @@ mod step_sink;
 mod syntax_error;
 mod tree_step;
 
+pub use balanced::{closes_brace, is_balanced, opens_brace};
 pub use edition::{Edition, Entry, Reparser};
 pub use front_end::FrontEnd;
 pub use output::{Output, Step};

@@ -1,18 +1,18 @@
 -- When the nearest node with a reparser is parsed again.
 use Rattle.std.proofs.Common.{◌≡◌, ℕ, ◌<◌, ◌≤◌, ◌^◌, ◌+◌, ◌-◌, List, [], ◌∷◌, zero, suc, get_or, length, sym, ap, ◌∙◌, subst, arith, Option, Some, None}
-use Rattle.std.specs.Prelude.{IsUtf8, ⊤, All, MatchOption}
+use Rattle.std.specs.Prelude.{IsUtf8, All, MatchOption}
 use Rattle.text_size.specs.TextRange.{Bounds}
 use Rattle.tree_model.specs.Tree.{Tree, text, subtree, IsPlace}
 use Rattle.tree_model.specs.Cursor.{Cursor, IsRoot, focus, range_start, range_end, range_of}
 use Rattle.tree_model.specs.Edit.{replace, root_of}
 use Rattle.ras_front_end.specs.declared.edition.Edition.{Edition}
 use Rattle.ras_front_end.specs.declared.edition.Reparser.{Reparser}
+use Rattle.ras_front_end.specs.declared.output.Output.{Output}
 use Rattle.ras_front_end.specs.ErrorModel.{ErrorModel, LiesIn}
 use Rattle.ras_front_end.specs.Balanced.{IsBalanced}
-use Rattle.ras_front_end.specs.Reading.{Reading}
-use Rattle.ras_front_end.specs.Keeps.{Keeps}
+use Rattle.ras_front_end.specs.Reading.{Reading, reading_of}
 use Rattle.ras_front_end.specs.Front.{Front, FrontEndKeeps}
-use Rattle.ras_front_end.specs.Parsed.{Parsed}
+use Rattle.ras_front_end.specs.Parsed.{Parsed, IsParseOf}
 use Rattle.ras_parsing.specs.Edit.{Edit, IsEditOf, edited, covered, edited_at}
 use Rattle.ras_parsing.specs.Reparse.{first_reparsable, nodes_around, BlockPath, merged, with_piece, token_faults, NoTokenPath, NoBlockPath, ByBlock}
 use Rattle.ras_parsing.specs.Rereading.{IsAround, IsNewBlock, IsBlockOf}
@@ -31,22 +31,42 @@ nearest_in front tree edit l o c r e f g is is_place =
     let w = node_around tree edit e c (first_is_in front (nodes_around tree edit) c r found).among in
     record { same = w.same_tree; around = w.around is_place }
 
-pub block_in : (front : Front) (edition : Edition) (tree : Tree) (edit : Edit) (c : Cursor) (r : Reparser) (new : List ℕ) → IsEditOf (text tree) edit → IsNewBlock front edition tree edit c r new → IsPlace c.tree c.place → IsIn tree edit c
-block_in front edition tree edit c r new e b is_place =
-    let w = node_around tree edit e c (first_is_in front (nodes_around tree edit) c r b.path.is_nearest).among in
-    record { same = w.same_tree; around = w.around is_place }
-
 pub token_in : (tree : Tree) (edit : Edit) (c : Cursor) → IsEditOf (text tree) edit → c ≡ covered tree edit → IsIn tree edit c
 token_in tree edit c e is = record { same = ap (λ (d : Cursor). d.tree) is; around = subst (λ d. IsAround d edit) (sym is) (around_covered tree edit e) }
 
+-- ---- the new text
+
+pub new_short : (tree : Tree) (edit : Edit) (c : Cursor) (new : List ℕ) → IsIn tree edit c → IsEditOf (text tree) edit → length (edited (text tree) edit) < 2 ^ 32 → new ≡ edited_at c edit → length new < 2 ^ 32
+new_short tree edit c new w e short is =
+    let p = piece_short c edit w.around (subst (λ t. IsEditOf (text t) edit) (sym w.same) e) in
+    let q = ap (λ t. length (edited (text t) edit)) w.same in
+    omega (arith, p, q, ap length is, short)
+
 -- ---- the paths
 
-pub is_block : (front : Front) (edition : Edition) (tree : Tree) (edit : Edit) (l : List Cursor) (o : Option (Cursor × Reparser)) (c : Cursor) (r : Reparser) (new : List ℕ) → l ≡ nodes_around tree edit → o ≡ first_reparsable front l → o ≡ Some (c, r) → new ≡ edited_at c edit
-    → IsBalanced (front.lexed edition new) → IsNewBlock front edition tree edit c r new
-is_block front edition tree edit l o c r new f g is e b = record {
-  text_is = e;
-  path = record { is_nearest = ap (first_reparsable front) (sym f) ∙ sym g ∙ is; balanced = subst (λ s. IsBalanced (front.lexed edition s)) e b };
-}
+-- the output for a text whose braces balance
+abbrev pub Reads : Front → Edition → Reparser → List ℕ → Output → Type 0
+Reads front edition r s output = IsBalanced (front.lexed edition s) × (reading_of output ≡ front.piece r edition s)
+
+pub is_block : (front : Front) (edition : Edition) (tree : Tree) (edit : Edit) (l : List Cursor) (o : Option (Cursor × Reparser)) (c : Cursor) (r : Reparser) (new read : List ℕ) (reading : Reading)
+    → FrontEndKeeps front → IsEditOf (text tree) edit → length (edited (text tree) edit) < 2 ^ 32 → IsPlace c.tree c.place → IsUtf8 new
+    → l ≡ nodes_around tree edit → o ≡ first_reparsable front l → o ≡ Some (c, r) → new ≡ edited_at c edit → read ≡ new
+    → IsBalanced (front.lexed edition read) → reading ≡ front.piece r edition read → IsNewBlock front edition tree edit c new reading
+is_block front edition tree edit l o c r new read reading k e short is_place u f g is new_is same b reads =
+    let w = nearest_in front tree edit l o c r e f g is is_place in
+    let nearest : first_reparsable front (nodes_around tree edit) ≡ Some (c, r) = ap (first_reparsable front) (sym f) ∙ sym g ∙ is in
+    let asked = (first_is_in front (nodes_around tree edit) c r nearest).asked in
+    let balanced = subst (λ s. IsBalanced (front.lexed edition s)) same b in
+    let reads_new : reading ≡ front.piece r edition new = reads ∙ ap (front.piece r edition) same in
+    record {
+      same_tree = w.same;
+      around = w.around;
+      text_is = new_is;
+      reparser = r;
+      path = record { is_nearest = nearest; balanced = subst (λ s. IsBalanced (front.lexed edition s)) new_is balanced };
+      reading_is = reads_new ∙ ap (front.piece r edition) new_is;
+      keeps = forget_root _ new reading (front.piece r edition new) (k.piece_kept _ _ _ r edition new asked u (new_short tree edit c new w e short new_is) balanced) reads_new;
+    }
 
 pub not_found : (front : Front) (edition : Edition) (tree : Tree) (edit : Edit) (l : List Cursor) (o : Option (Cursor × Reparser)) → l ≡ nodes_around tree edit → o ≡ first_reparsable front l → o ≡ None
     → (c : Cursor) (r : Reparser) → BlockPath front edition tree edit c r → ⊥
@@ -54,9 +74,9 @@ not_found front edition tree edit l o f g is c r w =
     let p : Cursor × Reparser = (c, r) in
     let bad : None ≡ Some p = sym is ∙ g ∙ ap (first_reparsable front) f ∙ w.is_nearest in cc
 
-pub not_balanced : (front : Front) (edition : Edition) (tree : Tree) (edit : Edit) (l : List Cursor) (o : Option (Cursor × Reparser)) (d : Cursor) (s : Reparser) (new : List ℕ) → l ≡ nodes_around tree edit → o ≡ first_reparsable front l → o ≡ Some (d, s) → new ≡ edited_at d edit
-    → (IsBalanced (front.lexed edition new) → ⊥) → (c : Cursor) (r : Reparser) → BlockPath front edition tree edit c r → ⊥
-not_balanced front edition tree edit l o d s new f g is e never c r w =
+pub not_balanced : (front : Front) (edition : Edition) (tree : Tree) (edit : Edit) (l : List Cursor) (o : Option (Cursor × Reparser)) (d : Cursor) (s : Reparser) (read : List ℕ) → l ≡ nodes_around tree edit → o ≡ first_reparsable front l → o ≡ Some (d, s) → read ≡ edited_at d edit
+    → (IsBalanced (front.lexed edition read) → ⊥) → (c : Cursor) (r : Reparser) → BlockPath front edition tree edit c r → ⊥
+not_balanced front edition tree edit l o d s read f g is e never c r w =
     let p : Cursor × Reparser = (d, s) in
     let q : Cursor × Reparser = (c, r) in
     let found : Some p ≡ Some q = sym is ∙ g ∙ ap (first_reparsable front) f ∙ w.is_nearest in
@@ -65,19 +85,6 @@ not_balanced front edition tree edit l o d s new f g is e never c r w =
     never (subst (λ t. IsBalanced (front.lexed edition t)) (sym (e ∙ ap (λ x. edited_at x edit) at)) w.balanced)
 
 -- ---- the new piece
-
-pub new_short : (tree : Tree) (edit : Edit) (c : Cursor) (new : List ℕ) → IsIn tree edit c → IsEditOf (text tree) edit → length (edited (text tree) edit) < 2 ^ 32 → new ≡ edited_at c edit → length new < 2 ^ 32
-new_short tree edit c new w e short is =
-    let p = piece_short c edit w.around (subst (λ t. IsEditOf (text t) edit) (sym w.same) e) in
-    let q = ap (λ t. length (edited (text t) edit)) w.same in
-    omega (arith, p, q, ap length is, short)
-
-pub block_keeps : (front : Front) (edition : Edition) (tree : Tree) (edit : Edit) (c : Cursor) (r : Reparser) (new : List ℕ) (reading : Reading) → FrontEndKeeps front → IsNewBlock front edition tree edit c r new
-    → IsUtf8 new → length new < 2 ^ 32 → IsIn tree edit c → reading ≡ front.piece r edition new → Keeps (λ root. ⊤) new reading
-block_keeps front edition tree edit c r new reading k b u short w e =
-    let asked = (first_is_in front (nodes_around tree edit) c r b.path.is_nearest).asked in
-    let balanced = subst (λ s. IsBalanced (front.lexed edition s)) (sym b.text_is) b.path.balanced in
-    forget_root _ new reading (front.piece r edition new) (k.piece_kept _ _ _ r edition new asked u short balanced) e
 
 -- the tree with a piece that has the new text
 pub new_text : (tree : Tree) (edit : Edit) (c : Cursor) (u : Tree) → IsIn tree edit c → IsEditOf (text tree) edit → text u ≡ edited_at c edit → text (replace c.tree c.place u) ≡ edited (text tree) edit
@@ -130,18 +137,21 @@ pub no_block_path : {X : Type 0} (front : Front) (edition : Edition) (tree : Tre
 no_block_path front edition tree root edit o P h is e =
     subst (λ (d : Cursor). NoBlockPath front edition d.tree edit) e (subst (λ x. MatchOption x (NoBlockPath front edition root.tree edit) P) is h)
 
+pub nothing_found : {X : Type 0} (N : Type 0) (o : Option X) (P : X → Type 0) → MatchOption o N P → o ≡ None → N
+nothing_found N o P h is = subst (λ y. MatchOption y N P) is h
+
 pub found_path : {X : Type 0} (N : Type 0) (o : Option X) (P : X → Type 0) (x : X) → MatchOption o N P → o ≡ Some x → P x
 found_path N o P x h is = subst (λ y. MatchOption y N P) is h
 
-pub by_block : (front : Front) (edition : Edition) (old : Parsed) (edit : Edit) (root c : Cursor) (r : Reparser) (s : List ℕ) (new : Parsed) (range : Bounds) → root ≡ root_of old.tree → NoTokenPath front edition old.tree edit
-    → IsNewBlock front edition root.tree edit c r s → IsBlockOf front edition old edit c r new → range ≡ range_of c → ByBlock front edition old edit new range
-by_block front edition old edit root c r s new range e none b p is = record {
+pub by_block : (front : Front) (edition : Edition) (old : Parsed) (edit : Edit) (root c : Cursor) (s : List ℕ) (reading : Reading) (new : Parsed) (range : Bounds) → root ≡ root_of old.tree → NoTokenPath front edition old.tree edit
+    → IsNewBlock front edition root.tree edit c s reading → IsBlockOf old edit c reading new → range ≡ range_of c → ByBlock front edition old edit new range
+by_block front edition old edit root c s reading new range e none b p is = record {
   block = c;
-  reparser = r;
+  reparser = b.reparser;
   piece = p.piece;
   no_token = none;
-  path = subst (λ (d : Cursor). BlockPath front edition d.tree edit c r) e b.path;
-  is_parse = p.is_parse;
+  path = subst (λ (d : Cursor). BlockPath front edition d.tree edit c b.reparser) e b.path;
+  is_parse = subst (λ r. IsParseOf (edited_at c edit) r p.piece) b.reading_is p.is_parse;
   is = p.is;
   range_is = is;
 }

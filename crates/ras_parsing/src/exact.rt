@@ -10,7 +10,6 @@ ghost use Rattle.ras_parsing.specs.Rereading.{IsAround};
 ghost use Rattle.ras_parsing.specs.Document.{opens, closes, is_between, exact_reparser_of, first_exact, is_quiet_from, AreShort, NoExactPath, IsPieceOf, range_after, in_order, all_in_order};
 ghost use Rattle.ras_parsing.specs.ExactSteps.{IsExactPiece};
 
-use crate::balanced::{closes_brace, opens_brace};
 use crate::build::build_output;
 use crate::ordered::{lexer_part, ordered};
 use crate::parse::Parse;
@@ -18,7 +17,7 @@ use crate::reparse::edited_text;
 use exact_front::ExactFront;
 use lossless_tree::laws::node_is_placed;
 use lossless_tree::{Ancestors, ReplaceError, SyntaxNode, TextRange, TextSize};
-use ras_front_end::{Edition, Output, Reparser, Step, SyntaxError};
+use ras_front_end::{Edition, Output, Reparser, Step, SyntaxError, closes_brace, opens_brace};
 use std::alloc::{AllocError, Global};
 
 // A node that is parsed again, with its new text and what the front end reads there.

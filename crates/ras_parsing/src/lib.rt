@@ -3,7 +3,6 @@
 //! `SyntaxTreeBuilder`, `parsing` and `utils` of rust-analyzer's `syntax`.)
 #![tactic(auto)]
 
-mod balanced;
 mod build;
 mod builder;
 mod document;

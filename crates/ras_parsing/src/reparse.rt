@@ -1,5 +1,5 @@
 //! Edits of a parse: re-parses one token, one block or the whole text.
-ghost use Rattle.std.specs.Prelude.{◌≡◌, ◌↔◌, ◌+◌, ◌-◌, ◌<◌, ◌≤◌, ◌^◌, length, IfOk, IfErr, OnOk, IfSome, All, IsTrue, IsFalse, None, MatchOption, option_map, string_bytes, take, drop, Contains, ◌++◌, IsCharBoundary};
+ghost use Rattle.std.specs.Prelude.{◌≡◌, ◌↔◌, ◌+◌, ◌-◌, ◌<◌, ◌≤◌, ◌^◌, length, IfOk, IfErr, OnOk, IfSome, All, IsTrue, IsFalse, None, MatchOption, option_map, string_bytes, take, drop, Contains, ◌++◌, IsCharBoundary, ⊤};
 ghost use Rattle.std.specs.Char.{encode_utf8};
 ghost use Rattle.tree_model.specs.Tree.{text};
 ghost use Rattle.tree_model.specs.Cursor.{IsRoot, first_child_of, parent_of};
@@ -8,11 +8,12 @@ ghost use Rattle.ras_front_end.specs.declared.parse_error.ParseError.TheVariants
 ghost use Rattle.ras_front_end.specs.Parsed.{ErrorsLieIn, IsParseOf};
 ghost use Rattle.ras_front_end.specs.declared.edition.Entry.TheVariants.{SourceFile};
 ghost use Rattle.ras_front_end.specs.ErrorModel.{LiesIn};
+ghost use Rattle.ras_front_end.specs.Keeps.{Keeps};
+ghost use Rattle.ras_front_end.specs.Reading.{reading_of};
 ghost use Rattle.ras_parsing.specs.Edit.{IsEditOf, edited, covered, edited_at, replacing};
 ghost use Rattle.ras_parsing.specs.Reparse.{merged, is_token_kind, IsContextualWord, kind_at, reparser_of, first_reparsable, token_faults, token_piece, with_piece, NoTokenPath, NoBlockPath, IsIncremental, IsReparse};
-ghost use Rattle.ras_parsing.specs.Rereading.{LosesNewline, MayStay, IsOneToken, NoOneToken, IsNewToken, IsNewBlock, IsBlockOf};
+ghost use Rattle.ras_parsing.specs.Rereading.{IsAround, LosesNewline, MayStay, IsOneToken, NoOneToken, IsNewToken, IsNewBlock, IsBlockOf};
 
-use crate::balanced::is_balanced;
 use crate::build::build_output;
 use crate::file::FileView;
 use crate::merge::merge;
@@ -21,7 +22,7 @@ use lossless_tree::laws::{node_is_placed, token_is_placed};
 use lossless_tree::{
     Ancestors, ReplaceError, SyntaxKind, SyntaxNode, SyntaxToken, TextRange, TextSize,
 };
-use ras_front_end::{Edition, Entry, FrontEnd, ParseError, Reparser, SyntaxError};
+use ras_front_end::{Edition, Entry, FrontEnd, Output, ParseError, Reparser, SyntaxError};
 use std::alloc::{AllocError, Global};
 
 impl<T: FileView> Parse<T> {
@@ -151,7 +152,7 @@ impl<T: FileView> Parse<T> {
         match block_path(alloc, self.root(), front, delete, insert, edition)? {
             Some(new) => {
                 let range = new.node.text_range();
-                let parse = with_block(alloc, self, front, new, delete, insert, edition)?;
+                let parse = with_block(alloc, self, new, delete, insert)?;
                 Ok(Some((parse, range)))
             }
             None => Ok(None),
@@ -198,35 +199,29 @@ fn with_token<T>(
 }
 
 // The parse with a re-parsed block in place of the old one.
-fn with_block<T, F: FrontEnd>(
+fn with_block<T>(
     alloc: Global,
     old: &Parse<T>,
-    front: &F,
     new: NewBlock,
     delete: TextRange,
     insert: &str,
-    edition: Edition,
 ) -> Result<Parse<T>, AllocError>
     requires edit { IsEditOf (text old.now.tree) (replacing delete insert.now) }
     requires short { length
         (edited (text old.now.tree) (replacing delete insert.now))
         < 2 ^ 32 }
-    requires block { IsNewBlock (F.answers front.now) edition old.now.tree
-        (replacing delete insert.now) new.node new.reparser
-        (string_bytes new.text) }
-    ensures new { IfOk result (IsBlockOf (F.answers front.now) edition old.now
-        (replacing delete insert.now) new.node new.reparser) }
+    requires same_tree { new.node.tree ≡ old.now.tree }
+    requires around { IsAround new.node (replacing delete insert.now) }
+    requires new_text { string_bytes new.text
+        ≡ edited_at new.node (replacing delete insert.now) }
+    requires keeps { Keeps (λ root. ⊤) (string_bytes new.text) (reading_of new.output) }
+    ensures new { IfOk result (IsBlockOf old.now (replacing delete insert.now) new.node
+        (reading_of new.output)) }
     ensures same_text { IfOk result (λ p. text p.tree
         ≡ edited (text old.now.tree) (replacing delete insert.now)) }
     ensures in_text { IfOk result ErrorsLieIn }
 {
-    let NewBlock {
-        node,
-        reparser,
-        text,
-    } = new;
-    node_is_placed(&node);
-    let output = front.parse_piece(alloc, reparser, text.as_str(), edition)?;
+    let NewBlock { node, text, output } = new;
     let built = build_output(alloc, text.as_str(), output)?;
     let range = node.text_range();
     let root = match node.replace_with(alloc, &built.root) {
@@ -281,12 +276,12 @@ struct NewToken {
     error: Option<String>,
 }
 
-// A node with its new text, and its reparser.
+// A node with its new text, and what the front end reads there.
 #[derive(Drop)]
 struct NewBlock {
     node: SyntaxNode,
-    reparser: Reparser,
     text: String,
+    output: Output,
 }
 
 pub(crate) fn is_too_long(root: &SyntaxNode, delete: TextRange, insert: &str) -> bool
@@ -481,8 +476,8 @@ fn is_token_with<F: FrontEnd>(
     Ok(is_token)
 }
 
-// The nearest node around an edit that has a reparser, with its new text, if the braces in that
-// balance.
+// The nearest node around an edit that has a reparser, with its new text and what is read there,
+// if the braces in that balance.
 fn block_path<F: FrontEnd>(
     alloc: Global,
     root: &SyntaxNode,
@@ -493,13 +488,16 @@ fn block_path<F: FrontEnd>(
 ) -> Result<Option<NewBlock>, AllocError>
     requires root { IsRoot root.now }
     requires edit { IsEditOf (text root.now.tree) (replacing delete insert.now) }
+    requires short { length
+        (edited (text root.now.tree) (replacing delete insert.now))
+        < 2 ^ 32 }
     ensures { IfOk result (λ o.
         MatchOption o
         (NoBlockPath (F.answers front.now) edition root.now.tree
         (replacing delete insert.now)) (λ n.
         IsNewBlock (F.answers front.now) edition root.now.tree
-        (replacing delete insert.now) n.node n.reparser
-        (string_bytes n.text))) }
+        (replacing delete insert.now) n.node
+        (string_bytes n.text) (reading_of n.output))) }
 {
     let nodes = root.covering_element(delete).ancestors();
     let (node, reparser) = match first_reparsable(nodes, front) {
@@ -509,15 +507,10 @@ fn block_path<F: FrontEnd>(
     node_is_placed(&node);
     let start = node.text_range().start();
     let text = edited_text(alloc, node.as_str(), start, delete, insert)?;
-    let kinds = front.lex(alloc, text.as_str(), edition)?;
-    if !is_balanced(kinds.as_slice()) {
-        return Ok(None);
+    match front.parse_balanced(alloc, reparser, text.as_str(), edition)? {
+        Some(output) => Ok(Some(NewBlock { node, text, output })),
+        None => Ok(None),
     }
-    Ok(Some(NewBlock {
-        node,
-        reparser,
-        text,
-    }))
 }
 
 // The first of the nodes that has a reparser.

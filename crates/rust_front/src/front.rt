@@ -1,5 +1,6 @@
 //! The front end.
-ghost use Rattle.std.specs.Prelude.{◌≡◌, ◌<◌, ◌^◌, nat_lt, IfOk, option_map, length};
+ghost use Rattle.std.specs.Prelude.{◌≡◌, ◌<◌, ◌^◌, nat_lt, IfOk, MatchOption, option_map, length};
+ghost use Rattle.ras_front_end.specs.Balanced.{IsBalanced};
 ghost use Rattle.ras_front_end.specs.Reading.{IsGiven, reading_of, single_of};
 ghost use Rattle.token_layout.specs.Laid.{IsCut};
 ghost use Rattle.rust_lexer.specs.Lexing.{tokens_of, errors_of};
@@ -23,7 +24,7 @@ use rust_lexer::{Lexed, is_strict_keyword, keyword, lex, single_token};
 use std::alloc::{AllocError, Global};
 use syntax_kind::SyntaxKind;
 use text_size::TextRange;
-use token_layout::Token;
+use token_layout::{Token, is_balanced};
 
 /// The front end for Rust, of the editions 2015 to 2024.
 ///
@@ -178,12 +179,14 @@ fn whole_piece(
     alloc: Global,
     reparser: Reparser,
     text: &str,
+    lexed: &Lexed,
     edition: Edition,
 ) -> Result<Output, AllocError>
+    requires tokens { lexed.now.tokens.items ≡ tokens_of edition text.now }
+    requires errors { lexed.now.errors.items ≡ errors_of edition text.now }
     ensures { length text.now < 2 ^ 32
         → IfOk result (λ o. reading_of o ≡ whole_piece_of reparser edition text.now) }
 {
-    let lexed = lex(alloc, text, edition)?;
     let events = events(
         alloc,
         rule_by(reparser.number),
@@ -191,11 +194,30 @@ fn whole_piece(
         &lexed.tokens,
         edition,
     )?;
-    let output = assemble(alloc, reparser.kind, text, &lexed, &events)?;
+    let output = assemble(alloc, reparser.kind, text, lexed, &events)?;
     Ok(output)
 }
 
+// The output for a piece of which these are the tokens.
 #[tactic(auto, unfolding(crate::specs::Front::piece_of))]
+fn lexed_piece(
+    alloc: Global,
+    reparser: Reparser,
+    text: &str,
+    lexed: &Lexed,
+    edition: Edition,
+) -> Result<Output, AllocError>
+    requires tokens { lexed.now.tokens.items ≡ tokens_of edition text.now }
+    requires errors { lexed.now.errors.items ≡ errors_of edition text.now }
+    ensures { IfOk result (λ o. reading_of o ≡ piece_of reparser edition text.now) }
+{
+    if is_short(text) {
+        whole_piece(alloc, reparser, text, lexed, edition)
+    } else {
+        Ok(nothing(alloc))
+    }
+}
+
 fn piece(
     alloc: Global,
     reparser: Reparser,
@@ -204,11 +226,27 @@ fn piece(
 ) -> Result<Output, AllocError>
     ensures { IfOk result (λ o. reading_of o ≡ piece_of reparser edition text.now) }
 {
-    if is_short(text) {
-        whole_piece(alloc, reparser, text, edition)
-    } else {
-        Ok(nothing(alloc))
+    let lexed = lex(alloc, text, edition)?;
+    let output = lexed_piece(alloc, reparser, text, &lexed, edition)?;
+    Ok(output)
+}
+
+fn balanced_piece(
+    alloc: Global,
+    reparser: Reparser,
+    text: &str,
+    edition: Edition,
+) -> Result<Option<Output>, AllocError>
+    ensures { IfOk result (λ o. MatchOption o
+        (IsBalanced (kinds_of (tokens_of edition text.now)) → ⊥)
+        (λ output. IsBalanced (kinds_of (tokens_of edition text.now))
+        × (reading_of output ≡ piece_of reparser edition text.now))) }
+{
+    let lexed = lex(alloc, text, edition)?;
+    if !is_balanced(&lexed.tokens) {
+        return Ok(None);
     }
+    Ok(Some(lexed_piece(alloc, reparser, text, &lexed, edition)?))
 }
 
 fn single(
@@ -290,6 +328,16 @@ impl FrontEnd for Rust {
         edition: Edition,
     ) -> Result<Output, AllocError> {
         piece(alloc, reparser, text, edition)
+    }
+
+    fn parse_balanced(
+        &self,
+        alloc: Global,
+        reparser: Reparser,
+        text: &str,
+        edition: Edition,
+    ) -> Result<Option<Output>, AllocError> {
+        balanced_piece(alloc, reparser, text, edition)
     }
 
     fn keyword(&self, text: &str, edition: Edition) -> Option<SyntaxKind> {

@@ -1,5 +1,6 @@
 //! Tests of the typed layer: casts, searches, pointers, literals, typed tokens, lookups by each of
-//! their shapes, and the README's tour. `answers_views` tests every call of every view.
+//! their shapes, pieces that are parsed again, and the README's tour. `answers_views` tests every
+//! call of every view.
 #![tactic(auto)]
 
 #[cfg(test)]
@@ -17,6 +18,8 @@ mod literals;
 mod lookups;
 #[cfg(test)]
 mod matches;
+#[cfg(test)]
+mod pieces;
 #[cfg(test)]
 mod pointers;
 #[cfg(test)]

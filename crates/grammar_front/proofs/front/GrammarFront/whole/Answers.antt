@@ -9,7 +9,7 @@ returns g c = λ l.
     let text = c.args.text.now in
     let lexer = g.L.Lexer.lexes c.args.self.now.lexer in
     let language = g.G.Language.speaks c.args.self.now.language in
-    let tokens = c.deref.ensures.value ∙ c.in_ok-lexed.ensures.tokens in
+    let tokens = c.deref.ensures.value ∙ c.requires.tokens in
     let cut = subst (λ ts. IsCut ts text) (sym tokens) ((g.met.L.Lexer.kept c.args.self.now.lexer).cut c.args.edition text c.utf8.text l) in
     whole_is lexer language c.args.target c.args.edition text _ _ _ _ _ (reading_of c.in_ok-output.output)
-    c.in_ok-lexed.ensures.tokens c.in_ok-lexed.ensures.errors c.deref.ensures.value (c.in_ok-events.ensures cut) c.deref-2.ensures.value c.in_ok-output.ensures
+    c.requires.tokens c.requires.errors c.deref.ensures.value (c.in_ok-events.ensures cut) c.deref-2.ensures.value c.in_ok-output.ensures

@@ -4,13 +4,25 @@ ghost use Rattle.ras_front_end.specs.Balanced.{opens_brace, closes_brace, open_a
 
 use syntax_kind::SyntaxKind;
 
-pub(crate) fn opens_brace(kind: SyntaxKind) -> bool
+/// Whether a token of the kind opens a brace: that of `{` alone does.
+///
+/// ```
+/// opens_brace(SyntaxKind::L_CURLY) // true
+/// opens_brace(SyntaxKind::L_PAREN) // false
+/// ```
+pub fn opens_brace(kind: SyntaxKind) -> bool
     ensures { result ≡ opens_brace kind }
 {
     matches!(kind, SyntaxKind::L_CURLY)
 }
 
-pub(crate) fn closes_brace(kind: SyntaxKind) -> bool
+/// Whether a token of the kind closes a brace: that of `}` alone does.
+///
+/// ```
+/// closes_brace(SyntaxKind::R_CURLY) // true
+/// closes_brace(SyntaxKind::R_PAREN) // false
+/// ```
+pub fn closes_brace(kind: SyntaxKind) -> bool
     ensures { result ≡ closes_brace kind }
 {
     matches!(kind, SyntaxKind::R_CURLY)
@@ -34,9 +46,14 @@ fn balances(kinds: &[SyntaxKind]) -> bool
     open == 0
 }
 
-/// Whether the kinds begin with an opening brace and end with a closing one, and between these
-/// braces balance.
-pub(crate) fn is_balanced(kinds: &[SyntaxKind]) -> bool
+/// Whether the kinds of a text's tokens begin with `{` and end with the `}` that closes it: braces
+/// balance between these two.
+///
+/// ```
+/// is_balanced(&[SyntaxKind::L_CURLY, SyntaxKind::R_CURLY]) // true, as in `{}`
+/// is_balanced(&[SyntaxKind::L_CURLY, SyntaxKind::R_CURLY, SyntaxKind::R_CURLY]) // false
+/// ```
+pub fn is_balanced(kinds: &[SyntaxKind]) -> bool
     ensures { IsTrue result ↔ IsBalanced kinds.now }
 {
     match kinds {
