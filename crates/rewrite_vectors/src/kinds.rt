@@ -55,6 +55,57 @@ fn types(rt: HostRuntime) -> Result<(), Fail> {
     )
 }
 
+// Patterns get no pairs. A file is refused in which rustc would want one round a pattern, unless it
+// has such a pattern already.
+#[test]
+fn patterns_that_want_pairs(rt: HostRuntime) -> Result<(), Fail> {
+    let files = [
+        "fn f() { let Some(A | B) = x; }",
+        "fn f(Some(A | B): T) {}",
+        "fn f() { match x { &Some(1..=2) => 1 } }",
+        "fn f() { match x { &mut Some(..=2) => 1 } }",
+        "fn f() { match x { box Some(1..2) => 1 } }",
+        "fn f() { match x { [Some(1..)] => 1 } }",
+        "fn f() { match x { [a @ Some(1..)] => 1 } }",
+    ];
+    for file in &files {
+        run(
+            rt.alloc(),
+            &[("Some($p) ==>> $p", *file, "the new text reads otherwise")],
+        )?;
+    }
+    run(
+        rt.alloc(),
+        &[
+            (
+                "Some($p) ==>> $p",
+                "fn f() { match x { [Some(1..=2), Some(..2)] | Some(1..) => 1, a @ Some(1..) => 2 } }",
+                "fn f() { match x { [1..=2, ..2] | 1.. => 1, a @ 1.. => 2 } }",
+            ),
+            (
+                "Some($p) ==>> $p",
+                "fn f() { if let Some(A | B) = x {} for Some(A | B) in x {} }",
+                "fn f() { if let A | B = x {} for A | B in x {} }",
+            ),
+            (
+                "Some($p) ==>> $p",
+                "fn f(Some((A | B)): T) { let Some((A | B)) = x; }",
+                "fn f((A | B): T) { let (A | B) = x; }",
+            ),
+            (
+                "Some($p) ==>> ($p)",
+                "fn f(Some(A | B): T) { let &Some(1..=2) = x; }",
+                "fn f((A | B): T) { let &(1..=2) = x; }",
+            ),
+            (
+                "Some($p) ==>> $p",
+                "fn f() { let C | D = y; let Some(A | B) = x; }",
+                "fn f() { let C | D = y; let A | B = x; }",
+            ),
+        ],
+    )
+}
+
 #[test]
 fn patterns(rt: HostRuntime) -> Result<(), Fail> {
     run(

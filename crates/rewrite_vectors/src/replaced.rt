@@ -242,6 +242,60 @@ fn commas_at_the_end(rt: HostRuntime) -> Result<(), Fail> {
     )
 }
 
+// A field without a `:` has its name from what would be replaced.
+#[test]
+fn fields(rt: HostRuntime) -> Result<(), Fail> {
+    run(
+        rt.alloc(),
+        &[
+            (
+                "a ==>> b",
+                "S { a, x: a, a: a, ..a };",
+                "S { a, x: b, a: b, ..b };",
+            ),
+            ("a ==>> f(1)", "S { a, x: a };", "S { a, x: f(1) };"),
+            (
+                "a ==>> b",
+                "let S { a, x: a, ref mut a, box a } = s;",
+                "let S { a, x: b, ref mut a, box a } = s;",
+            ),
+            (
+                "a ==>> b",
+                "f(S { a }, |S { a }| a);",
+                "f(S { a }, |S { a }| b);",
+            ),
+            ("S { $a } ==>> T { $a }", "S { a };", "T { a };"),
+            ("S { a } ==>> T { b }", "S { a };", "T { b };"),
+            // What is in an attribute of such a field stays, or the file is refused.
+            (
+                "g(1) ==>> 2",
+                "S { #[x = g(1)] a, x: g(1) };",
+                "the new text reads otherwise",
+            ),
+        ],
+    )
+}
+
+#[test]
+fn line_ends(rt: HostRuntime) -> Result<(), Fail> {
+    run(
+        rt.alloc(),
+        &[
+            (
+                "f($a) ==>> {\n    $a\n}",
+                "\r\n  f(1);\r\n",
+                "\r\n  {\r\n      1\r\n  };\r\n",
+            ),
+            (
+                "f($a) ==>> {\r\n    $a\r\n}",
+                "\n  f(1);\n",
+                "\n  {\n      1\n  };\n",
+            ),
+            ("f($a) ==>> {\n$a\n}", "f(1);", "{\n1\n};"),
+        ],
+    )
+}
+
 #[test]
 fn comments(rt: HostRuntime) -> Result<(), Fail> {
     run(

@@ -87,14 +87,19 @@ impl From<AllocError> for Refusal {
     }
 }
 
-// Writes what is wrong with a file of rules, behind the name of the file.
+// Writes what is wrong with a file of rules, behind the name of the file: `r.toml:2:11: ..` where
+// it begins with a place.
 fn write_rules<W: fmt::Write>(
     f: &mut fmt::Formatter<W>,
     path: &str,
     error: &RulesError,
 ) -> fmt::Result {
     match error {
-        RulesError::Rule { .. } | RulesError::Wrong { .. } => write!(f, "{path}:{error}"),
+        RulesError::Rule { .. }
+        | RulesError::InFile { .. }
+        | RulesError::Wrong { .. }
+        | RulesError::NoTable { .. }
+        | RulesError::NoTemplate { .. } => write!(f, "{path}:{error}"),
         _ => write!(f, "{path}: {error}"),
     }
 }

@@ -1,2 +1,3 @@
+pub mod Exposed
 pub mod Rewrites
 pub mod Rules

@@ -22,6 +22,7 @@ use Rattle.tree_match.specs.Matching.{sort_by}
 use Rattle.tree_match.specs.Reads.{AllRead}
 use Rattle.rust_parens.specs.declared.needless.Tried.{Tried}
 use Rattle.rust_parens.specs.Needless.{AreTriedAmong}
+use Rattle.rust_rewrite.specs.Exposed.{exposes}
 use Rattle.rust_rewrite.specs.declared.refusal.RewriteError.{RewriteError}
 use Rattle.rust_rewrite.specs.declared.refusal.Failure.{Failure}
 use Rattle.rust_rewrite.specs.declared.refusal.Failure.TheVariants as failure
@@ -37,12 +38,14 @@ abbrev pub ranges_of : List Replacement → List Bounds
 ranges_of es = map (λ e. e.delete) es
 
 -- the text parses to the tree of the old one in which each match is its rule's template, with what
--- its placeholders stand for put in, but for white space, comments and pairs of parentheses; and
--- with no more errors, those of validation among them
+-- its placeholders stand for put in, but for white space, comments and pairs of parentheses; with
+-- no more errors, those of validation among them; and without a pattern that rustc wants in a pair,
+-- unless the old one had such a pattern
 pub record ReadsAs (front : Front) (edition : Edition) (rules : List Rule) (old : Parsed) (s : List ℕ) : Type 0 where
   pub parse : Parsed
   pub is_parse : IsParseOf s (front.parsed SourceFile edition s) parse
   pub errors : length (all_errors parse) ≤ length (all_errors old)
+  pub patterns : exposes (root_of old.tree) (root_of parse.tree) ≡ false
   pub reads : AllRead rules (inside_of (root_of old.tree)) (inside_of (root_of parse.tree))
 
 -- the text is the old one with the outermost matches replaced, and nothing else, and reads as it is

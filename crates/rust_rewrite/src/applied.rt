@@ -6,8 +6,10 @@ ghost use Rattle.text_edit.specs.Replacements.{edited};
 ghost use Rattle.tree_model.specs.Tree.{text};
 ghost use Rattle.tree_model.specs.Edit.{root_of};
 ghost use Rattle.tree_match.specs.Finds.{occurrence_of, found_in};
+ghost use Rattle.rust_rewrite.specs.Exposed.{exposes};
 ghost use Rattle.rust_rewrite.specs.Rewrites.{ranges_of, outermost, ReadsAs, IsRewrite, WithoutNeedless, is_comment, comment_starts, has_comment, loses_value, loses_from, loses_by, loses_any, loses_comment, IsCommentLost, IsRefused};
 
+use crate::exposed::has_exposed;
 use crate::plain::need_none;
 use crate::refusal::{Failure, RewriteError};
 use crate::render::{Pairs, Rendered, Source, render};
@@ -252,6 +254,13 @@ fn are_ranges(edit: &TextEdit, ranges: &[TextRange]) -> bool
     }
 }
 
+// Whether a new tree has a pattern that rustc wants in a pair, and the old one has none.
+fn exposes(old: &SyntaxNode, new: &SyntaxNode) -> bool
+    ensures { result ≡ exposes old.now new.now }
+{
+    has_exposed(new) && !has_exposed(old)
+}
+
 // The parse of a text, if that reads as the old tree with the matches replaced, with no more
 // errors.
 fn read_meant<F: FrontEnd>(
@@ -267,6 +276,9 @@ fn read_meant<F: FrontEnd>(
 {
     let new: Parse<SyntaxNode> = read(alloc, front, Entry::SourceFile, text, edition)?;
     if new.errors(alloc)?.len() > old.errors(alloc)?.len() {
+        return Ok(None);
+    }
+    if exposes(old.root(), new.root()) {
         return Ok(None);
     }
     if reads_as(alloc, rules, old.root(), new.root())? {
@@ -506,7 +518,7 @@ fn replaced<F: FrontEnd>(
 /// for put in; matches in these are replaced too. `foo(1, 2) * 3` by `foo($a, $b) ==>> $a + $b`
 /// becomes `(1 + 2) * 3`. All rules must have templates. A match with a comment between its tokens
 /// is none, since the comment would be lost; comments in what stands for placeholders are kept with
-/// it.
+/// it. Nor is a field without a `:`, as `a` in `S { a }`, whose name would change.
 ///
 /// Every value and every replacement is put into a pair of parentheses, and those pairs that are
 /// needless go, by the parses of [`find_needless_among`]. The user's own pairs stay. What is
@@ -516,7 +528,8 @@ fn replaced<F: FrontEnd>(
 /// # Errors
 ///
 /// `ReadsOtherwise` if the new text does not parse to the tree that is meant, or with more errors
-/// than the old one, as where an expression stands that is also a name; `LosesComment` if a comment
+/// than the old one, as where an expression stands that is also a name, or if rustc would want a
+/// pair of parentheses round a pattern, as in `let A | B = x;`; `LosesComment` if a comment
 /// is in what stands for a placeholder that the template has not; `TooLong` if it is too long;
 /// `Memory` at any time.
 #[tactic(auto, using(crate::proofs::LossLemmas::memory_refused))]

@@ -5,6 +5,7 @@
 mod applied;
 mod condition;
 mod error;
+mod exposed;
 mod forms;
 mod kind;
 mod parse;
@@ -15,6 +16,6 @@ mod side;
 
 pub use applied::{Rewritten, rewrite, rewrite_matches};
 pub use error::{RuleError, RuleFault};
-pub use parse::{parse_pattern, parse_rule, parse_rules};
+pub use parse::{parse_pattern, parse_rule, parse_rules, placeholder_start, rule_start};
 pub use refusal::RewriteError;
 pub use tree_match::{Match, Rule, find};

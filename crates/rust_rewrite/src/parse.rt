@@ -187,6 +187,32 @@ fn one_side<F: FrontEnd>(
     rule_of(alloc, &words, &mut names, sides)
 }
 
+/// Where the `$` of the first placeholder with a name is in a pattern; `None` if there is none.
+/// `$$name` is another one, and what is in a string or in a comment is none.
+///
+/// # Errors
+///
+/// Those of [`parse_rule`] that are of placeholders.
+pub fn placeholder_start<F: FrontEnd>(
+    alloc: Global,
+    front: &F,
+    edition: Edition,
+    text: &str,
+    name: &str,
+) -> Result<Option<usize>, RuleError>
+    ensures { IfErr result (λ e. is_other e.fault ≡ true) }
+{
+    let prefix = prefix_for(alloc, text)?;
+    let words = Words {
+        front,
+        edition,
+        prefix: prefix.as_str(),
+    };
+    let mut names = Names::new(alloc);
+    side_of(alloc, &words, text, 0, &mut names, true)?;
+    Ok(names.start_of(name))
+}
+
 // The rule of a line: with a template if the line has `==>>`.
 fn line_rule<F: FrontEnd>(
     alloc: Global,
@@ -273,4 +299,33 @@ fn all_rules<F: FrontEnd>(
         start = start.saturating_add(line.len());
     }
     Ok(rules)
+}
+
+// Where the line of the rule with an index starts.
+fn start_of(alloc: Global, text: &str, index: usize) -> Result<usize, AllocError> {
+    let lines = lines_of(alloc, text)?;
+    let mut left = index;
+    let mut start = 0usize;
+    for line in &lines {
+        if has_rule(line) {
+            if left == 0 {
+                return Ok(start);
+            }
+            left -= 1;
+        }
+        start = start.saturating_add(line.len());
+    }
+    Ok(start)
+}
+
+/// Where the line of the rule with an index starts in a text with a rule a line; the end of the
+/// text if it has fewer.
+///
+/// # Errors
+///
+/// `AllocError` if memory runs out.
+pub fn rule_start(alloc: Global, text: &str, index: usize) -> Result<usize, AllocError>
+    ensures { IfOk result (λ o. o ≤ length text.now) }
+{
+    Ok(start_of(alloc, text, index)?.min(text.len()))
 }

@@ -8,7 +8,7 @@ use text_edit::{ApplyError, OverlapError};
 #[derive(Clone, Copy, Debug, PartialEq, Eq, Drop, thiserror::Error)]
 pub enum RewriteError {
     /// The new text does not parse to the tree that is meant, or it has more errors, those of
-    /// validation among them.
+    /// validation among them, or a pattern to which rustc wants parentheses.
     #[error("the new text reads otherwise")]
     ReadsOtherwise,
     /// A comment would be lost: it is in what stands for a placeholder that is not in the template.

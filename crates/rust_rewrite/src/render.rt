@@ -89,6 +89,14 @@ fn indent_of(text: &str, line: usize, offset: usize) -> &str {
         .unwrap_or("")
 }
 
+// What the first line of a text ends with.
+fn line_end_of(text: &str) -> &'static str {
+    match text.split_once('\n') {
+        Some((line, _)) if line.ends_with('\r') => "\r\n",
+        _ => "\n",
+    }
+}
+
 // Whether a template has several lines.
 fn is_long(rule: &Rule) -> bool {
     rule.pieces().iter().any(
@@ -159,6 +167,7 @@ struct Writer<'a> {
     source: &'a Source<'a>,
     // Where the line of each match starts, if that counts.
     lines: Vec<usize>,
+    line_end: &'static str,
     out: Rendered,
     count: usize,
     gap: bool,
@@ -266,18 +275,20 @@ impl<'a> Writer<'a> {
         self.push(")")
     }
 
-    // A text of a template, in which each line but the first is indented.
+    // A text of a template, in which each line but the first is indented. Its lines end as those of
+    // the old text.
     fn push_lines(&mut self, text: &str, indent: &str) -> Result<(), Failure> {
-        let mut is_first = true;
-        for line in text.split('\n') {
-            if !is_first {
-                self.push("\n")?;
-                self.push(indent)?;
-            }
-            self.push(line)?;
-            is_first = false;
+        let mut rest = text;
+        for _turn in 0..text.len() {
+            let Some((line, behind)) = rest.split_once('\n') else {
+                break;
+            };
+            self.push(line.strip_suffix('\r').unwrap_or(line))?;
+            self.push(self.line_end)?;
+            self.push(indent)?;
+            rest = behind;
         }
-        Ok(())
+        self.push(rest)
     }
 
     // The white space that the line of a match begins with, if that counts.
@@ -489,6 +500,7 @@ pub(crate) fn render(alloc: Global, source: &Source) -> Result<Rendered, Failure
     let mut writer = Writer {
         source,
         lines: lines_of(alloc, source)?,
+        line_end: line_end_of(source.old),
         out: nothing(alloc, source.old.len())?,
         count: 0,
         gap: false,

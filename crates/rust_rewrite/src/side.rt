@@ -130,6 +130,16 @@ impl Names {
         mem::replace(&mut self.holes, Vec::new(alloc))
     }
 
+    /// Where the placeholder with a name that is none for a list stands first.
+    pub(crate) fn start_of(&self, name: &str) -> Option<usize> {
+        for (number, known) in self.names.iter().enumerate() {
+            if known.0.as_str() == name && !self.is_list(number) {
+                return Some(known.1);
+            }
+        }
+        None
+    }
+
     /// Where the placeholder with a number stands first.
     pub(crate) fn offset(&self, number: usize) -> Option<usize> {
         let (_, offset) = self.names.get(number)?;

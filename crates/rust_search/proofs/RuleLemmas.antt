@@ -15,8 +15,9 @@ pattern_told s e (error.Numbered n at f) t w h = absurd t
 pattern_told s e (error.InFile p n at f) t w h = absurd t
 pattern_told s e (error.Toml m) t w h = absurd t
 pattern_told s e (error.Wrong at n k x) t w h = absurd t
+pattern_told s e (error.NoTable at x) t w h = absurd t
 pattern_told s e error.Empty t w h = absurd t
-pattern_told s e (error.NoTemplate n) t w h = absurd t
+pattern_told s e (error.NoTemplate at n x) t w h = absurd t
 pattern_told s e error.Memory t w h = tt
 
 pub rule_told : (s : List ℕ) (e : RuleError) (r : RulesError) → IsToldOf s e r → e.offset ≤ length s → IsRuleFault s e.fault → IsRuleRefused s r
@@ -25,8 +26,9 @@ rule_told s e (error.Numbered n at f) t w h = absurd t
 rule_told s e (error.InFile p n at f) t w h = absurd t
 rule_told s e (error.Toml m) t w h = absurd t
 rule_told s e (error.Wrong at n k x) t w h = absurd t
+rule_told s e (error.NoTable at x) t w h = absurd t
 rule_told s e error.Empty t w h = absurd t
-rule_told s e (error.NoTemplate n) t w h = absurd t
+rule_told s e (error.NoTemplate at n x) t w h = absurd t
 rule_told s e error.Memory t w h = tt
 
 pub line_told : (s : List ℕ) (e : RuleError) (r : RulesError) → IsToldOf s e r → e.offset ≤ length s → IsLineRefused s r
@@ -35,8 +37,9 @@ line_told s e (error.Numbered n at f) t w = absurd t
 line_told s e (error.InFile p n at f) t w = absurd t
 line_told s e (error.Toml m) t w = absurd t
 line_told s e (error.Wrong at n k x) t w = absurd t
+line_told s e (error.NoTable at x) t w = absurd t
 line_told s e error.Empty t w = absurd t
-line_told s e (error.NoTemplate n) t w = absurd t
+line_told s e (error.NoTemplate at n x) t w = absurd t
 line_told s e error.Memory t w = tt
 
 -- memory ran out

@@ -64,9 +64,10 @@ abbrev pub first_bare : ℕ → List Rule → Option ℕ
 first_bare n [] = None
 first_bare n (r ∷ rs) = if is_bare r then Some n else first_bare (suc n) rs
 
--- the number is told from 1
+-- the number is told from 1; or memory ran out
 abbrev pub IsBareTold : Option ℕ → RulesError → Type 0
-IsBareTold (Some n) (error.NoTemplate m) = m ≡ n + 1
+IsBareTold (Some n) (error.NoTemplate at m expected) = m ≡ n + 1
+IsBareTold (Some n) error.Memory = ⊤
 IsBareTold _ _ = ⊥
 
 -- the name of a rule and its message; both are empty if nothing is said of it

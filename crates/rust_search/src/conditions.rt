@@ -1,5 +1,8 @@
 //! Conditions that a rule of a file has beside its pattern, as `where = ["$a:kind(literal)"]`.
 
+use ras_front_end::Edition;
+use rust_front::Rust;
+use rust_rewrite::{RuleError, placeholder_start};
 use std::alloc::{AllocError, Global};
 
 // What follows a name, if a text begins with it and not with a longer one.
@@ -18,8 +21,8 @@ fn push_all(out: &mut String, texts: &[&str]) -> Result<(), AllocError> {
     Ok(())
 }
 
-// Appends what follows a `$`, with a condition more if it is the placeholder of this name. Returns
-// whether it is.
+// Appends what follows the `$` of the placeholder of a name, with a condition more. Returns whether
+// it is as it should be.
 fn push_placeholder(
     out: &mut String,
     text: &str,
@@ -30,51 +33,65 @@ fn push_placeholder(
         push_all(out, &["{", name, ":", condition, "}", rest])?;
         return Ok(true);
     }
-    if let Some(inside) = text.strip_prefix('{') {
-        if let Some(rest) = behind_name(inside, name) {
+    let Some(inside) = text.strip_prefix('{') else {
+        return Ok(false);
+    };
+    match behind_name(inside.trim_start(), name) {
+        Some(rest) => {
             push_all(out, &["{", name, ":", condition, rest])?;
-            return Ok(true);
+            Ok(true)
         }
+        None => Ok(false),
     }
-    out.push_str(text)?;
-    Ok(false)
 }
 
-// A pattern with a condition more at the first placeholder of a name: `f($a)` with `kind(literal)`
-// for `a` is `f(${a:kind(literal)})`. `None` if there is no such placeholder; `$$a` is none.
+// A pattern with a condition more at the placeholder of a name whose `$` is at an offset.
+fn with_condition_at(
+    alloc: Global,
+    pattern: &str,
+    at: usize,
+    name: &str,
+    condition: &str,
+) -> Result<Option<String>, AllocError> {
+    let before = pattern.get(..at).unwrap_or("");
+    let Some(text) = pattern.get(at..).and_then(|it| it.strip_prefix('$')) else {
+        return Ok(None);
+    };
+    let mut out = String::new(alloc);
+    push_all(&mut out, &[before, "$"])?;
+    if push_placeholder(&mut out, text, name, condition)? {
+        Ok(Some(out))
+    } else {
+        Ok(None)
+    }
+}
+
+// A pattern with a condition more at the first placeholder of a name: `f("$a", $a)` with
+// `kind(literal)` for `a` is `f("$a", ${a:kind(literal)})`. `None` if there is no such placeholder;
+// `$$a` is none.
 fn with_condition(
     alloc: Global,
     pattern: &str,
     name: &str,
     condition: &str,
-) -> Result<Option<String>, AllocError> {
-    let mut out = String::new(alloc);
-    let mut is_done = false;
-    // Whether a `$` is before the text, and whether another is before that.
-    let mut is_behind = false;
-    let mut is_list = false;
-    for text in pattern.split('$') {
-        if is_behind {
-            out.push('$')?;
-        }
-        if is_behind && !is_list && !is_done {
-            is_done = push_placeholder(&mut out, text, name, condition)?;
-        } else {
-            out.push_str(text)?;
-        }
-        is_list = is_behind && text.is_empty();
-        is_behind = true;
+) -> Result<Option<String>, RuleError> {
+    match placeholder_start(alloc, &Rust, Edition::CURRENT, pattern, name)? {
+        Some(at) => Ok(with_condition_at(alloc, pattern, at, name, condition)?),
+        None => Ok(None),
     }
-    if is_done { Ok(Some(out)) } else { Ok(None) }
 }
 
 /// A pattern with the condition that a text says of one of its placeholders, as `$a:kind(literal)`
 /// or `a: kind(literal)`; `None` if the text says none, or the pattern has no such placeholder.
+///
+/// # Errors
+///
+/// Why the placeholders of the pattern cannot be read.
 pub(crate) fn with_where(
     alloc: Global,
     pattern: &str,
     text: &str,
-) -> Result<Option<String>, AllocError> {
+) -> Result<Option<String>, RuleError> {
     let Some((head, condition)) = text.split_once(':') else {
         return Ok(None);
     };

@@ -12,7 +12,7 @@ use ras_front_end::Edition;
 use rule_plan::Severity;
 use rust_front::Rust;
 use rust_report::{Spot, Spots};
-use rust_rewrite::{RuleError, RuleFault, parse_pattern, parse_rule, parse_rules};
+use rust_rewrite::{RuleError, RuleFault, parse_pattern, parse_rule, parse_rules, rule_start};
 use std::alloc::{AllocError, Global};
 use std::fmt;
 use text_size::TextSize;
@@ -77,10 +77,21 @@ pub enum RulesError {
         key: &'static str,
         expected: &'static str,
     },
+    /// At this place a TOML file has this in place of a table `[[rule]]`; an empty text if it has
+    /// nothing.
+    NoTable {
+        at: Spot,
+        found: String,
+    },
     /// There is no rule.
     Empty,
-    /// The rule with this number, from 1, has no template.
-    NoTemplate(u64),
+    /// At this place of a file a rule begins that has no template, which is expected as this. Its
+    /// number counts from 1.
+    NoTemplate {
+        at: Spot,
+        number: u64,
+        expected: &'static str,
+    },
     /// Out of memory.
     Memory,
 }
@@ -134,10 +145,21 @@ impl fmt::Display for RulesError {
                 key,
                 expected,
             } => write!(f, "{at}: rule {number}: {key}: expected {expected}"),
-            RulesError::Empty => f.write_str("expected a rule"),
-            RulesError::NoTemplate(number) => {
-                write!(f, "rule {number}: expected `==>>` and a template")
+            RulesError::NoTable { at, found } if found.is_empty() => {
+                write!(f, "{at}: expected a table `[[rule]]`")
             }
+            RulesError::NoTable { at, found } => {
+                write!(f, "{at}: expected a table `[[rule]]`, not `{found}`")
+            }
+            RulesError::Empty => f.write_str("expected a rule"),
+            RulesError::NoTemplate {
+                at,
+                number,
+                expected,
+            } => write!(
+                f,
+                "{at}: rule {number}: expected {expected}; only `search` takes a rule without one"
+            ),
             RulesError::Memory => f.write_str("out of memory"),
         }
     }
@@ -279,15 +301,42 @@ fn first_bare(rules: &[Rule]) -> Option<usize>
     None
 }
 
+// The place of a rule without a template, and what is expected there.
+fn place_of_bare(
+    alloc: Global,
+    name: &str,
+    text: &str,
+    number: usize,
+) -> Result<(Spot, &'static str), AllocError> {
+    if is_toml(name) {
+        let number = (number as u64).saturating_add(1);
+        let at = toml_rules::spot_of(alloc, text, number, "template")?;
+        return Ok((at, "a `template`"));
+    }
+    let at = place_of(alloc, text, rule_start(alloc, text, number)?)?;
+    Ok((at, "`==>>` and a template"))
+}
+
 // Refuses rules without a template.
-fn check_templates(rules: &[Rule]) -> Result<(), RulesError>
+fn check_templates(alloc: Global, name: &str, text: &str, rules: &[Rule]) -> Result<(), RulesError>
     ensures all { OnOk result (first_bare 0 rules.now ≡ None) }
     ensures first { IfErr result (IsBareTold (first_bare 0 rules.now)) }
 {
     match first_bare(rules) {
         None => Ok(()),
-        Some(number) => Err(RulesError::NoTemplate(number as u64 + 1)),
+        Some(number) => match place_of_bare(alloc, name, text, number) {
+            Ok((at, expected)) => Err(RulesError::NoTemplate {
+                at,
+                number: number as u64 + 1,
+                expected,
+            }),
+            Err(_) => Err(RulesError::Memory),
+        },
     }
+}
+
+fn is_toml(name: &str) -> bool {
+    name.ends_with(".toml")
 }
 
 /// The rules of a file: TOML if its name ends with `.toml`, and otherwise one a line. If they are
@@ -310,14 +359,14 @@ pub fn rules_of(
         return Err(RulesError::Empty);
     }
     if replaces {
-        check_templates(&set.rules)?;
+        check_templates(alloc, name, text, &set.rules)?;
     }
     Ok(set)
 }
 
 // The rules of a file.
 fn read_rules(alloc: Global, name: &str, text: &str) -> Result<RuleSet, RulesError> {
-    if name.ends_with(".toml") {
+    if is_toml(name) {
         toml_rules::read(alloc, text)
     } else {
         rules_of_lines(alloc, text)

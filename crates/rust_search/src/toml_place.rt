@@ -48,6 +48,11 @@ fn behind_value(alloc: Global, text: &str) -> Result<&str, ParseError> {
     Ok(rest)
 }
 
+// Whether a word is the first of a key.
+fn begins_with(key: &Key, word: &str) -> bool {
+    key.path.first().unwrap_or(&key.last).as_str() == word
+}
+
 // Whether a key is a word without dots.
 fn is_word(key: &Key, word: &str) -> bool {
     key.path.is_empty() && key.last.as_str() == word
@@ -101,4 +106,34 @@ pub(crate) fn value_at(
         }
     }
     Ok(found)
+}
+
+/// The offset of the first head or line of a file whose key begins with this word, outside of other
+/// tables; 0 if there is none.
+pub(crate) fn key_at(alloc: Global, text: &str, word: &str) -> Result<usize, ParseError> {
+    let mut rest = text;
+    let mut is_outside = true;
+    for _turn in 0..text.len() {
+        rest = skip_blank(rest, true);
+        if rest.is_empty() {
+            return Ok(0);
+        }
+        let at = text.len().saturating_sub(rest.len());
+        if rest.starts_with('[') {
+            is_outside = false;
+            let inside = rest.trim_start_matches('[');
+            let (key, behind) = dotted_key(alloc, skip_ws(inside))?;
+            if begins_with(&key, word) {
+                return Ok(at);
+            }
+            rest = behind_line(behind);
+        } else {
+            let (key, behind) = dotted_key(alloc, rest)?;
+            if is_outside && begins_with(&key, word) {
+                return Ok(at);
+            }
+            rest = behind_value(alloc, skip_ws(behind_first(behind)))?;
+        }
+    }
+    Ok(0)
 }

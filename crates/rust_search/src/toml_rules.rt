@@ -8,7 +8,7 @@ ghost use Rattle.rust_search.specs.Rules.{IsSeverityBy};
 
 use crate::conditions::with_where;
 use crate::rules::{Note, RuleSet, RulesError, numbered, place_of};
-use crate::toml_place::value_at;
+use crate::toml_place::{key_at, value_at};
 use gitignore::{Rule as Glob, rule_of};
 use ras_front_end::Edition;
 use rule_plan::Severity;
@@ -16,7 +16,7 @@ use rust_front::Rust;
 use rust_report::Spot;
 use rust_rewrite::{parse_pattern, parse_rule};
 use std::alloc::{AllocError, Global};
-use toml::Value;
+use toml::{Table, Value};
 use tree_match::Rule;
 
 // What a value is to be.
@@ -119,18 +119,19 @@ fn no_condition() -> Trouble {
 }
 
 // A pattern with the condition of a value.
-fn with_value(alloc: Global, pattern: &str, value: &Value) -> Result<String, Trouble> {
+fn with_value(alloc: Global, pattern: &str, value: &Value, number: u64) -> Result<String, Trouble> {
     let Some(text) = value.as_str() else {
         return Err(no_condition());
     };
-    match with_where(alloc, pattern, text)? {
-        Some(pattern) => Ok(pattern),
-        None => Err(no_condition()),
+    match with_where(alloc, pattern, text) {
+        Ok(Some(pattern)) => Ok(pattern),
+        Ok(None) => Err(no_condition()),
+        Err(error) => Err(Trouble::Rule(numbered(alloc, number, pattern, error))),
     }
 }
 
 // The pattern of a table, with its conditions.
-fn pattern_of(alloc: Global, table: &Value) -> Result<String, Trouble> {
+fn pattern_of(alloc: Global, table: &Value, number: u64) -> Result<String, Trouble> {
     let mut pattern = String::from_str(alloc, text_of(table, "pattern")?)?;
     if pattern.is_empty() {
         return Err(Trouble::Value(Fault {
@@ -142,10 +143,10 @@ fn pattern_of(alloc: Global, table: &Value) -> Result<String, Trouble> {
         None => {}
         Some(Value::Array(values)) => {
             for value in values {
-                pattern = with_value(alloc, pattern.as_str(), value)?;
+                pattern = with_value(alloc, pattern.as_str(), value, number)?;
             }
         }
-        Some(value) => pattern = with_value(alloc, pattern.as_str(), value)?,
+        Some(value) => pattern = with_value(alloc, pattern.as_str(), value, number)?,
     }
     Ok(pattern)
 }
@@ -214,7 +215,7 @@ fn note_of(alloc: Global, table: &Value, number: u64) -> Result<Note, Trouble> {
         message: String::from_str(alloc, text_of(table, "message")?)?,
         severity: severity_of(table)?,
         files: files_of(alloc, table)?,
-        pattern: pattern_of(alloc, table)?,
+        pattern: pattern_of(alloc, table, number)?,
         template: String::from_str(alloc, text_of(table, "template")?)?,
     })
 }
@@ -248,8 +249,13 @@ fn push_rule(alloc: Global, set: &mut RuleSet, table: &Value, number: u64) -> Re
     Ok(())
 }
 
-// The place of the value of a key in the file.
-fn spot_of(alloc: Global, text: &str, number: u64, key: &str) -> Result<Spot, AllocError> {
+// The place of the value of a key of the rule with a number in the file.
+pub(crate) fn spot_of(
+    alloc: Global,
+    text: &str,
+    number: u64,
+    key: &str,
+) -> Result<Spot, AllocError> {
     place_of(alloc, text, value_at(alloc, text, number, key).unwrap_or(0))
 }
 
@@ -301,6 +307,41 @@ fn refusal(alloc: Global, error: &toml::de::Error) -> RulesError {
     }
 }
 
+// A key with its value as they are written in the file.
+fn written(alloc: Global, key: &str, value: &Value) -> Result<String, AllocError> {
+    Ok(match value {
+        Value::Array(values) if matches!(values.first(), Some(Value::Table(_))) => {
+            format!(in alloc; "[[{key}]]")?
+        }
+        Value::Table(_) => format!(in alloc; "[{key}]")?,
+        _ => format!(in alloc; "{key} = ..")?,
+    })
+}
+
+// What a file has in place of a rule, and where: what is named `rule`, or its first key.
+fn other_than_rule(alloc: Global, text: &str, table: &Table) -> Result<(Spot, String), AllocError> {
+    let first = match table.get("rule") {
+        Some(value) => Some(("rule", value)),
+        None => table
+            .iter()
+            .next()
+            .map(|(key, value)| (key.as_str(), value)),
+    };
+    let Some((key, value)) = first else {
+        return Ok((Spot { line: 1, column: 1 }, String::new(alloc)));
+    };
+    let at = place_of(alloc, text, key_at(alloc, text, key).unwrap_or(0))?;
+    Ok((at, written(alloc, key, value)?))
+}
+
+// The refusal of a file that has no rule.
+fn no_rule(alloc: Global, text: &str, table: &Table) -> RulesError {
+    match other_than_rule(alloc, text, table) {
+        Ok((at, found)) => RulesError::NoTable { at, found },
+        Err(_) => RulesError::Memory,
+    }
+}
+
 /// The rules of a text.
 pub(crate) fn read(alloc: Global, text: &str) -> Result<RuleSet, RulesError>
     ensures { IfOk result (λ set. length set.notes.items ≡ length set.rules.items) }
@@ -310,11 +351,12 @@ pub(crate) fn read(alloc: Global, text: &str) -> Result<RuleSet, RulesError>
         notes: Vec::new(alloc),
     };
     let table = match toml::table_from_str(alloc, text) {
-        Ok(table) => Value::Table(table),
+        Ok(table) => table,
         Err(error) => return Err(refusal(alloc, &error)),
     };
-    let Some(Value::Array(tables)) = table.get("rule") else {
-        return Ok(set);
+    let tables = match table.get("rule") {
+        Some(Value::Array(tables)) if !tables.is_empty() => tables,
+        _ => return Err(no_rule(alloc, text, &table)),
     };
     let mut number = 1u64;
     for table in tables {

@@ -24,7 +24,7 @@ use Rattle.tree_match.specs.declared.rule.Rule.{Rule}
 use Rattle.tree_match.specs.Matching.{Values, is_for, first_from}
 use Rattle.tree_match.specs.Roots.{has_form}
 use Rattle.tree_match.specs.Jumps.{is_operation, has_operations, has_rule, stops_at}
-use Rattle.tree_match.specs.Finds.{Occurrence, inside_of, ranges_of, nodes_of, match_at, drop_behind, is_free, take_out, with_found, found_at, found_from}
+use Rattle.tree_match.specs.Finds.{Occurrence, inside_of, ranges_of, nodes_of, match_at, kept, kept_at, drop_behind, is_free, take_out, with_found, found_at, found_from}
 use Rattle.tree_match.proofs.ConditionLemmas.{not_for}
 use Rattle.tree_match.proofs.RootLemmas.{or_left, or_right}
 
@@ -108,8 +108,8 @@ none_found : (rules : List Rule) (free : List Bounds) (c : Cursor)
     → has_rule rules (kind_at c) ≡ false → found_at rules free c ≡ None
 none_found rules free c h = by (is_free (drop_behind (range_start c) free) (range_of c))
   where
-    by : (b : Bool) → (if b then match_at rules c else None) ≡ None
-    by true = sym (none_at rules c h)
+    by : (b : Bool) → (if b then kept_at rules c else None) ≡ None
+    by true = ap (kept rules c) (sym (none_at rules c h))
     by false = refl
 
 -- ---- what may be searched behind it
@@ -132,8 +132,8 @@ found_behind : (rules : List Rule) (n : ℕ) (free : List Bounds) (l : List Curs
     → found_from rules (drop_behind n free) l ≡ found_from rules free l
 found_behind rules n free [] r = refl
 found_behind rules n free (c ∷ l) r =
-    ap (λ f. with_found (if is_free f (range_of c) then match_at rules c else None)
-    (found_from rules (take_out (if is_free f (range_of c) then match_at rules c else None) f) l))
+    ap (λ f. with_found (if is_free f (range_of c) then kept_at rules c else None)
+    (found_from rules (take_out (if is_free f (range_of c) then kept_at rules c else None) f) l))
     (drop_twice n (range_start c) free r.0)
 
 passed : (rules : List Rule) (free : List Bounds) (c : Cursor) (l : List Cursor)

@@ -1,5 +1,5 @@
 -- What the tasks that are left say of the trees that are compared.
-use Rattle.std.proofs.Common.{◌≡◌, ℕ, Bool, true, false, List, [], ◌∷◌, length, sym, subst, ◌∙◌, ap}
+use Rattle.std.proofs.Common.{◌≡◌, ℕ, Bool, true, false, List, [], ◌∷◌, length, refl, sym, subst, ◌∙◌, ap}
 use Rattle.std.specs.Prelude.{Option, Some, None, option_map, slice_get, Result, Ok, Err, IfOk}
 use Rattle.std.specs.Option.{option_and_then}
 use Rattle.tree_model.specs.Tree.{is_token}
@@ -10,8 +10,10 @@ use Rattle.tree_match.specs.declared.rule.Form.{Form}
 use Rattle.tree_match.specs.declared.matching.Found.{Found}
 use Rattle.tree_match.specs.declared.reads.Task.{Task}
 use Rattle.tree_match.specs.Bare.{past, bare}
-use Rattle.tree_match.specs.Matching.{Values, match_template, found_of}
-use Rattle.tree_match.specs.Reads.{rule_at, form_at, FirstReads, same_token, same_node, replaced, AllRead, none, some, ValueReads, unused, used, ValuesRead, no_values, values, IsReplaced, IsSameToken, IsSameNode, TasksRead, Leads, LeadsBy}
+use Rattle.tree_match.specs.Fields.{is_short_first}
+use Rattle.tree_match.specs.Same.{is_same}
+use Rattle.tree_match.specs.Matching.{Values, form_at, match_template, found_of}
+use Rattle.tree_match.specs.Reads.{rule_at, FirstReads, same_token, same_field, same_node, replaced, AllRead, none, some, ValueReads, unused, used, ValuesRead, no_values, values, IsReplaced, IsSameToken, IsSameNode, IsNodeBy, IsNode, TasksRead, Leads, LeadsBy}
 
 pub if_ok : {T E : Type 0} {P Q : T → Type 0} (r : Result T E) → IfOk r P → ((x : T) → P x → Q x) → IfOk r Q
 if_ok (Ok x) h f = f x h
@@ -102,14 +104,37 @@ match_leads rules ts' ts old new x f r k a b h =
           (replaced f.rule f.form it.form f.values.items it.news k (sym a ∙ ap (option_map found_of) b) it.is_form it.is_template it.values, both.1));
     })
 
+pub field_leads : (ts : List Task) (old new : Siblings) (y : Bool) → is_short_first old.trees ≡ true → y ≡ is_same old new
+    → Leads (λ rules. IsNode rules old new) y ts ts
+field_leads ts old new y s e = record {
+  leads = λ t rules h. (subst (λ b. IsNodeBy b rules old new) (sym s) (sym e ∙ t), h);
+}
+
+pub other_leads : {E : Type 0} (ts' ts : List Task) (old new : Siblings) (r : Result Bool E) → is_short_first old.trees ≡ false
+    → IfOk r (λ ok. Leads (λ rules. IsSameNode rules (bare Passed old) (bare Passed new)) ok ts' ts)
+    → IfOk r (λ ok. Leads (λ rules. IsNode rules old new) ok ts' ts)
+other_leads ts' ts old new r s h =
+    if_ok r h (λ ok l. record {
+      leads = λ t rules k. (let both = l.leads t rules k in
+          (subst (λ b. IsNodeBy b rules old new) (sym s) both.0, both.1));
+    })
+
+first_node : (rules : List Rule) (old new : Siblings) → is_token (first_of old.trees) ≡ false → rule_at rules old ≡ None → IsNode rules old new
+    → FirstReads rules old new
+first_node rules old new k e n = by (is_short_first old.trees) refl n
+  where
+    by : (b : Bool) → is_short_first old.trees ≡ b → IsNodeBy b rules old new → FirstReads rules old new
+    by true s is = same_field k e s is
+    by false s is = same_node k e s is.new_node is.kind is.inside
+
 pub node_leads : {E : Type 0} (rules : List Rule) (ts' ts : List Task) (old new : Siblings) (x : Option Found) (r : Result Bool E)
     → is_token (first_of old.trees) ≡ false → option_map found_of x ≡ rule_at rules old → x ≡ None
-    → IfOk r (λ ok. Leads (λ rs. IsSameNode rs (bare Passed old) (bare Passed new)) ok ts' ts)
+    → IfOk r (λ ok. Leads (λ rs. IsNode rs old new) ok ts' ts)
     → IfOk r (λ ok. LeadsBy rules (FirstReads rules old new) ok ts' ts)
 node_leads rules ts' ts old new x r k a b h =
     if_ok r h (λ ok l. record {
-      leads = λ t q. (let both = l.leads t rules q in let it = both.0 in
-          (same_node k (sym a ∙ ap (option_map found_of) b) it.new_node it.kind it.inside, both.1));
+      leads = λ t q. (let both = l.leads t rules q in
+          (first_node rules old new k (sym a ∙ ap (option_map found_of) b) both.0, both.1));
     })
 
 -- ---- all of some siblings

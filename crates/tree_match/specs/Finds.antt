@@ -1,6 +1,6 @@
 -- The places of a tree where rules match: the outermost, and those inside what stands for
 -- placeholders.
-use Rattle.std.specs.Prelude.{ℕ, Bool, false, ◌&&◌, if◌then◌else◌, List, [], ◌∷◌, Option, Some, None, option_map, map, nat_le}
+use Rattle.std.specs.Prelude.{ℕ, ◌==◌, Bool, false, not, ◌&&◌, if◌then◌else◌, List, [], ◌∷◌, length, Option, Some, None, option_map, map, nat_le}
 use Rattle.std.specs.Option.{option_and_then}
 use Rattle.tree_model.specs.Tree.{forest_of_children, is_token}
 use Rattle.tree_model.specs.Cursor.{Cursor, focus, range_of, range_start, at_node, descendants_of}
@@ -9,9 +9,11 @@ use Rattle.text_size.specs.TextRange.{Bounds}
 use Rattle.lossless_tree.specs.Trees.{Siblings, first_of}
 use Rattle.ras_node.specs.Nodes.{kind_at}
 use Rattle.tree_match.specs.declared.rule.Rule.{Rule}
+use Rattle.tree_match.specs.declared.rule.Form.{Form}
 use Rattle.tree_match.specs.declared.places.Match.{Match}
 use Rattle.tree_match.specs.Runs.{run_range}
-use Rattle.tree_match.specs.Matching.{Values, first_rule}
+use Rattle.tree_match.specs.Fields.{is_in_short}
+use Rattle.tree_match.specs.Matching.{Values, form_at, first_rule}
 
 -- a rule, which of its forms, where it matches, where what stands for each placeholder is, and
 -- where if that is a node
@@ -45,6 +47,19 @@ match_at rules c =
     option_map (λ f. record { rule = f.0; form = f.1; range = range_of c; values = ranges_of f.2; nodes = nodes_of f.2 })
     (first_rule rules (kind_at c) (inside_of c))
 
+-- the template of a form that there may be
+abbrev pub has_template : Option Form → Bool
+has_template None = false
+has_template (Some f) = not (length f.template.items == 0)
+
+-- a match is none if it would be replaced and is a field without a `:`, whose name would change
+abbrev pub kept : List Rule → Cursor → Option Occurrence → Option Occurrence
+kept rules c None = None
+kept rules c (Some m) = if has_template (form_at rules m.rule m.form) && is_in_short c then None else Some m
+
+abbrev pub kept_at : List Rule → Cursor → Option Occurrence
+kept_at rules c = kept rules c (match_at rules c)
+
 -- the ranges that may still be searched, without those that end where a node starts, or before
 abbrev pub drop_behind : ℕ → List Bounds → List Bounds
 drop_behind n [] = []
@@ -73,7 +88,7 @@ take_out (Some m) (next ∷ rs) = with_some m.nodes (behind m.range next ∷ rs)
 
 -- the match at a node that may be searched, and what may be searched behind it
 abbrev pub found_at : List Rule → List Bounds → Cursor → Option Occurrence
-found_at rules free c = if is_free (drop_behind (range_start c) free) (range_of c) then match_at rules c else None
+found_at rules free c = if is_free (drop_behind (range_start c) free) (range_of c) then kept_at rules c else None
 
 abbrev pub free_behind : List Rule → List Bounds → Cursor → List Bounds
 free_behind rules free c = take_out (found_at rules free c) (drop_behind (range_start c) free)

@@ -1,5 +1,6 @@
 pub mod Runs
 pub mod Bare
+pub mod Fields
 pub mod Conditions
 pub mod Lists
 pub mod Walks

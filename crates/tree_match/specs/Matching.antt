@@ -121,6 +121,10 @@ first_among rules [] k s = None
 first_among rules (n ∷ ns) k s =
     option_or (option_map (λ f. (n, f.0, f.1)) (match_numbered rules n k s)) (first_among rules ns k s)
 
+-- form number m of rule number n
+abbrev pub form_at : List Rule → ℕ → ℕ → Option Form
+form_at rules n m = option_and_then (λ r. slice_get r.forms.items m) (slice_get rules n)
+
 abbrev pub found_of : Found → ℕ × ℕ × Values
 found_of f = (f.rule, f.form, f.values.items)
 

@@ -1,6 +1,5 @@
 -- A tree in which the matches of rules are replaced.
-use Rattle.std.specs.Prelude.{◌≡◌, ℕ, ⊤, IsTrue, Bool, true, false, List, [], ◌∷◌, length, Option, Some, None, slice_get}
-use Rattle.std.specs.Option.{option_and_then}
+use Rattle.std.specs.Prelude.{◌≡◌, ℕ, ⊤, IsTrue, Bool, true, false, List, [], ◌∷◌, length, Option, Some, None}
 use Rattle.syntax_kind.specs.Kinds.{is_same_kind}
 use Rattle.tree_model.specs.Tree.{kind_of, text, is_token}
 use Rattle.lossless_tree.specs.Trees.{Siblings, is_done, first_of, behind_first, inside_first}
@@ -9,15 +8,13 @@ use Rattle.tree_match.specs.declared.rule.Rule.{Rule}
 use Rattle.tree_match.specs.declared.rule.Form.{Form}
 use Rattle.tree_match.specs.declared.reads.Task.{Task}
 use Rattle.tree_match.specs.Bare.{past, bare}
-use Rattle.tree_match.specs.Matching.{Values, match_template, first_rule}
+use Rattle.tree_match.specs.Fields.{is_short_first}
+use Rattle.tree_match.specs.Same.{is_same}
+use Rattle.tree_match.specs.Matching.{Values, form_at, match_template, first_rule}
 
 -- the first rule whose pattern the first of some siblings is, in which of its forms, and the values
 abbrev pub rule_at : List Rule → Siblings → Option (ℕ × ℕ × Values)
 rule_at rules s = first_rule rules (kind_of (first_of (bare Passed s).trees)) (inside_first (bare Passed s))
-
--- form number m of rule number n
-abbrev pub form_at : List Rule → ℕ → ℕ → Option Form
-form_at rules n m = option_and_then (λ r. slice_get r.forms.items m) (slice_get rules n)
 
 mutual
   -- The first of the new siblings is the first of the old ones with the matches of rules replaced.
@@ -26,9 +23,12 @@ mutual
     same_token : {old new : Siblings} → is_token (first_of old.trees) ≡ true → is_token (first_of new.trees) ≡ true
         → is_same_kind (kind_of (first_of old.trees)) (kind_of (first_of new.trees)) ≡ true
         → text (first_of old.trees) ≡ text (first_of new.trees) → FirstReads rules old new
-    -- where no rule matches: a node of the same kind, whose children are the old ones with the
-    -- matches in them replaced
-    same_node : {old new : Siblings} → is_token (first_of old.trees) ≡ false → rule_at rules old ≡ None
+    -- where no rule matches: the same field without a `:`, in which nothing is replaced
+    same_field : {old new : Siblings} → is_token (first_of old.trees) ≡ false → rule_at rules old ≡ None
+        → is_short_first old.trees ≡ true → is_same old new ≡ true → FirstReads rules old new
+    -- or any other node of the same kind, whose children are the old ones with the matches in them
+    -- replaced
+    same_node : {old new : Siblings} → is_token (first_of old.trees) ≡ false → rule_at rules old ≡ None → is_short_first old.trees ≡ false
         → is_token (first_of (bare Passed new).trees) ≡ false
         → is_same_kind (kind_of (first_of (bare Passed old).trees)) (kind_of (first_of (bare Passed new).trees)) ≡ true
         → AllRead rules (inside_first (bare Passed old)) (inside_first (bare Passed new)) → FirstReads rules old new
@@ -78,6 +78,15 @@ pub record IsSameNode (rules : List Rule) (old new : Siblings) : Type 0 where
   pub new_node : is_token (first_of new.trees) ≡ false
   pub kind : is_same_kind (kind_of (first_of old.trees)) (kind_of (first_of new.trees)) ≡ true
   pub inside : AllRead rules (inside_first old) (inside_first new)
+
+-- the first of the old siblings is a field without a `:`, or not, and the first of the new ones is
+-- as it has to be where no rule matches
+abbrev pub IsNodeBy : Bool → List Rule → Siblings → Siblings → Type 0
+IsNodeBy true rules old new = is_same old new ≡ true
+IsNodeBy false rules old new = IsSameNode rules (bare Passed old) (bare Passed new)
+
+abbrev pub IsNode : List Rule → Siblings → Siblings → Type 0
+IsNode rules old new = IsNodeBy (is_short_first old.trees) rules old new
 
 -- ---- what is still to be compared
 

@@ -5,6 +5,7 @@
 mod bare;
 mod compile;
 mod condition;
+mod field;
 mod fit;
 mod jump;
 mod kind;

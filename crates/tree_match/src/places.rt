@@ -3,11 +3,14 @@ ghost use Rattle.std.specs.Prelude.{◌≡◌, ◌∷◌, [], ◌++◌, IfOk, On
 ghost use Rattle.std.specs.Option.{option_and_then};
 ghost use Rattle.tree_model.specs.Cursor.{range_of};
 ghost use Rattle.tree_match.specs.Runs.{run_range};
+ghost use Rattle.tree_match.specs.Matching.{form_at};
 ghost use Rattle.tree_match.specs.Roots.{AreRoots};
-ghost use Rattle.tree_match.specs.Finds.{occurrence_of, ranges_of, node_range, nodes_of, match_at, drop_behind, is_free, with_some, behind, take_out, found_at, free_behind, with_found, found_in};
+ghost use Rattle.tree_match.specs.Finds.{occurrence_of, ranges_of, node_range, nodes_of, match_at, has_template, kept_at, drop_behind, is_free, with_some, behind, take_out, found_at, free_behind, with_found, found_in};
 
+use crate::field::is_in_short;
 use crate::jump::{have_operations, next_stop};
 use crate::matching::{Found, first_among};
+use crate::reads::form_at;
 use crate::roots::{Root, roots_of, rules_for};
 use crate::rule::Rule;
 use crate::run::Run;
@@ -122,6 +125,35 @@ fn match_at(
     }
 }
 
+// Whether a match is one of a rule with a template.
+fn has_template(rules: &[Rule], found: &Match) -> bool
+    ensures { result ≡ has_template (form_at rules.now found.now.rule found.now.form) }
+{
+    match form_at(rules, found.rule, found.form) {
+        None => false,
+        Some(form) => !form.template.is_empty(),
+    }
+}
+
+// The same, unless it would be replaced and is a field without a `:`, as `a` in `S { a }`.
+fn kept_at(
+    alloc: Global,
+    rules: &[Rule],
+    roots: &[Root],
+    node: &SyntaxNode,
+) -> Result<Option<Match>, AllocError>
+    requires roots { AreRoots rules.now roots.now }
+    ensures { IfOk result (λ o. option_map occurrence_of o ≡ kept_at rules.now node.now) }
+{
+    let Some(found) = match_at(alloc, rules, roots, node)? else {
+        return Ok(None);
+    };
+    if has_template(rules, &found) && is_in_short(node) {
+        return Ok(None);
+    }
+    Ok(Some(found))
+}
+
 // Drops the ranges that end where a node starts, or before.
 fn drop_behind(free: &mut VecDeque<TextRange>, start: TextSize)
     ensures { free.new.items ≡ drop_behind start free.old.items }
@@ -216,7 +248,7 @@ fn found_at(
     if !is_free(free, range) {
         return Ok(None);
     }
-    let found = match_at(alloc, rules, roots, node)?;
+    let found = kept_at(alloc, rules, roots, node)?;
     take_out(free, &found)?;
     Ok(found)
 }
@@ -243,7 +275,8 @@ fn push_found(
 }
 
 /// The places where rules match, in preorder: the outermost, and those inside what stands for
-/// placeholders. At one place the first rule that matches counts.
+/// placeholders. At one place the first rule that matches counts; if that has a template, and the
+/// place is a field without a `:`, as `a` in `S { a }`, there is no match.
 ///
 /// If all rules match operators, calls and paths alone, as `$a + $b` and `f($a)` do, nodes of most
 /// other kinds are not looked at.

@@ -3,13 +3,15 @@ ghost use Rattle.std.specs.Prelude.{◌≡◌, IfOk, IsTrue, option_map};
 ghost use Rattle.tree_match.specs.declared.bare.Comments.TheVariants.{Passed};
 ghost use Rattle.tree_match.specs.Bare.{bare};
 ghost use Rattle.tree_match.specs.Finds.{inside_of};
-ghost use Rattle.tree_match.specs.Matching.{found_of};
-ghost use Rattle.tree_match.specs.Reads.{FirstReads, AllRead, ValueReads, ValuesRead, IsSameToken, IsSameNode, IsReplaced, rule_at, form_at, Leads, LeadsBy};
+ghost use Rattle.tree_match.specs.Matching.{form_at, found_of};
+ghost use Rattle.tree_match.specs.Reads.{FirstReads, AllRead, ValueReads, ValuesRead, IsSameToken, IsSameNode, IsNode, IsReplaced, rule_at, Leads, LeadsBy};
 
 use crate::bare::{Comments, bare, past};
+use crate::field::is_short_first;
 use crate::matching::{Found, first_rule, match_template, numbered};
 use crate::rule::{Form, Rule};
 use crate::run::Run;
+use crate::same::is_same;
 use lossless_tree::SyntaxNode;
 use std::alloc::{AllocError, Global};
 use std::collections::VecDeque;
@@ -71,9 +73,9 @@ fn push_values<'a, 'b>(
     }
 }
 
-// A form of the rule with a number.
+/// A form of the rule with a number.
 #[tactic(auto, using(crate::proofs::ReadLemmas::no_rule, crate::proofs::ReadLemmas::some_rule))]
-fn form_at(rules: &[Rule], number: usize, form: usize) -> Option<&Form>
+pub(crate) fn form_at(rules: &[Rule], number: usize, form: usize) -> Option<&Form>
     ensures { option_map (λ f. f.now) result ≡ form_at rules.now number form }
 {
     match numbered(rules, number) {
@@ -150,6 +152,24 @@ fn push_bare<'a, 'b>(
     )
 }
 
+// Compares the first of two lists of siblings, nodes, where no rule matches. Adds a task for what
+// is below, unless it is a field without a `:`, in which nothing is replaced.
+#[tactic(auto, using(crate::proofs::ReadLemmas::field_leads))]
+fn push_node<'a, 'b>(
+    alloc: Global,
+    tasks: &mut VecDeque<Task<'a, 'b>>,
+    old: &Run<'a>,
+    new: &Run<'b>,
+) -> Result<bool, AllocError>
+    ensures { IfOk result (λ ok.
+        Leads (λ rules. IsNode rules old.now new.now) ok tasks.new.items tasks.old.items) }
+{
+    if is_short_first(old) {
+        return is_same(alloc, old, new);
+    }
+    push_bare(tasks, old, new)
+}
+
 // The first rule that matches the first of some siblings.
 fn rule_at<'a>(
     alloc: Global,
@@ -180,7 +200,7 @@ fn step_into<'a, 'b>(
     }
     match rule_at(alloc, rules, old)? {
         Some(found) => is_replaced(alloc, tasks, rules, &found, new),
-        None => push_bare(tasks, old, new),
+        None => push_node(alloc, tasks, old, new),
     }
 }
 
