@@ -15,8 +15,9 @@ use crate::refusal::{Failure, RewriteError};
 use crate::render::{Pairs, Rendered, Source, render};
 use lossless_tree::{SyntaxElement, SyntaxKind, SyntaxNode, TextRange};
 use ras_front_end::{Edition, Entry, FrontEnd};
+use ras_node::support::is_of_kind;
 use ras_parsing::{Parse, read};
-use rust_parens::{find_needless_among, may_go, parens_of};
+use rust_parens::{find_needless_among, may_go, may_go_alone, parens_of};
 use std::alloc::{AllocError, Global};
 use text_edit::{Indel, TextEdit};
 use tree_match::{Match, Rule, find, reads_as};
@@ -164,6 +165,28 @@ fn check_comments(
     Ok(())
 }
 
+// Whether a pair's `(` is at one of these offsets.
+fn is_put(pair: &SyntaxNode, pairs: &[usize]) -> bool {
+    match parens_of(pair) {
+        None => false,
+        Some((open, _)) => pairs.binary_search(&(open.start().raw() as usize)).is_ok(),
+    }
+}
+
+// Whether one of the pairs that are directly in each other, of which this is the outermost, was not
+// put: the user's `(n - 1)` in `((n - 1)).abs()`.
+fn holds_own_pair(pair: &SyntaxNode, pairs: &[usize]) -> bool {
+    for node in pair.descendants() {
+        if !is_of_kind(&node, SyntaxKind::PAREN_EXPR) {
+            return false;
+        }
+        if !is_put(&node, pairs) {
+            return true;
+        }
+    }
+    false
+}
+
 // The pairs of a tree whose `(` is at one of these offsets, and that the tests of operators and
 // statements let go.
 fn candidates(
@@ -173,11 +196,10 @@ fn candidates(
 ) -> Result<Vec<SyntaxNode>, AllocError> {
     let mut found = Vec::new(alloc);
     for node in root.descendants() {
-        if let Some((open, _)) = parens_of(&node) {
-            let at = open.start().raw() as usize;
-            if pairs.binary_search(&at).is_ok() && may_go(&node) {
-                found.push(node)?;
-            }
+        if is_put(&node, pairs)
+            && (may_go(&node) || (may_go_alone(&node) && holds_own_pair(&node, pairs)))
+        {
+            found.push(node)?;
         }
     }
     Ok(found)
