@@ -8,7 +8,7 @@ use Rattle.tree_model.specs.Cursor.{Cursor, at_node, descendants_of, parent_of, 
 use Rattle.ras_node.specs.Nodes.{has_kind_in, is_of_kind, typed_child, token_child}
 use Rattle.ras_node.specs.Sets.{is_expr}
 use Rattle.ras_prec.specs.Rules.{asks}
-use Rattle.rust_parens.specs.Rustc.{is_needed_by_rustc}
+use Rattle.rust_parens.specs.Rustc.{is_needed_by_rustc, is_pair_at}
 use Rattle.rust_parens.specs.Patterns.{pattern_may_go}
 
 -- the ranges of `(` and of `)`, where the node has both
@@ -23,22 +23,22 @@ is_value c = has_kind_in is_expr c && not (is_of_kind PAREN_EXPR c)
 abbrev pub innermost : Cursor → Option Cursor
 innermost pair = find is_value (filter at_node (descendants_of pair))
 
-abbrev pub asks_for : Option Cursor → Cursor → Cursor → Bool
+abbrev pub asks_for : Option Cursor → Option Cursor → Cursor → Bool
 asks_for None parent pair = false
-asks_for (Some value) parent pair = asks value parent pair
+asks_for (Some value) None pair = false
+asks_for (Some value) (Some parent) pair = asks value parent pair
 
--- of pairs in pairs the outermost, if what the innermost holds needs it
-abbrev pub is_needed_inside : Cursor → Cursor → Cursor → Bool
-is_needed_inside inside parent pair =
-    is_of_kind PAREN_EXPR inside && (not (is_of_kind PAREN_EXPR parent) && asks_for (innermost pair) parent pair)
+-- the outermost of pairs directly in each other, if what the innermost holds needs it
+abbrev pub is_needed_inside : Cursor → Bool
+is_needed_inside pair =
+    not (is_pair_at (parent_of pair)) && (is_pair_at (typed_child is_expr pair) && asks_for (innermost pair) (parent_of pair) pair)
 
--- the expression needs no parentheses in place of the pair, below the pair's parent, nor does what
--- further pairs directly in the pair hold, and it is not one that rustc may read otherwise
+-- the expression needs no parentheses in place of the pair, below the pair's parent, and is not one
+-- that rustc may read otherwise
 abbrev pub may_go_from : Option Cursor → Option Cursor → Cursor → Bool
 may_go_from None parent pair = false
 may_go_from (Some inside) None pair = false
-may_go_from (Some inside) (Some parent) pair =
-    not (asks inside parent pair) && (not (is_needed_inside inside parent pair) && not (is_needed_by_rustc inside parent pair))
+may_go_from (Some inside) (Some parent) pair = not (asks inside parent pair) && not (is_needed_by_rustc inside parent pair)
 
 abbrev pub inside_may_go : Cursor → Bool
 inside_may_go pair = may_go_from (typed_child is_expr pair) (parent_of pair) pair
@@ -56,5 +56,9 @@ abbrev pub contents_may_go : Cursor → Bool
 contents_may_go c = (is_of_kind PAREN_EXPR c && inside_may_go c) || pattern_may_go c
 
 -- such a pair around such contents
+abbrev pub may_go_alone : Cursor → Bool
+may_go_alone c = is_bare c && contents_may_go c
+
+-- of pairs directly in each other, one stays where it is needed: the outermost
 abbrev pub may_go : Cursor → Bool
-may_go c = is_bare c && contents_may_go c
+may_go c = may_go_alone c && not (is_needed_inside c)

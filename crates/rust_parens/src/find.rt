@@ -2,10 +2,10 @@
 ghost use Rattle.std.specs.Prelude.{◌≡◌, IfOk};
 ghost use Rattle.std.specs.List.{filter};
 ghost use Rattle.tree_model.specs.Cursor.{at_node, descendants_of};
-ghost use Rattle.rust_parens.specs.Pairs.{asks_for, innermost, is_needed_inside, is_value, may_go, contents_may_go, inside_may_go, is_bare, parens_of};
+ghost use Rattle.rust_parens.specs.Pairs.{asks_for, innermost, is_needed_inside, is_value, may_go, may_go_alone, contents_may_go, inside_may_go, is_bare, parens_of};
 
 use crate::patterns::pattern_may_go;
-use crate::rustc::is_needed_by_rustc;
+use crate::rustc::{is_needed_by_rustc, is_pair_at};
 use lossless_tree::{SyntaxKind, SyntaxNode, TextRange};
 use ras_node::sets::{Exprs, KindSet};
 use ras_node::support;
@@ -42,23 +42,26 @@ fn innermost(pair: &SyntaxNode) -> Option<SyntaxNode>
     None
 }
 
-fn asks_for(value: Option<SyntaxNode>, parent: &SyntaxNode, pair: &SyntaxNode) -> bool
-    ensures { result ≡ asks_for value parent.now pair.now }
+fn asks_for(value: Option<SyntaxNode>, parent: Option<SyntaxNode>, pair: &SyntaxNode) -> bool
+    ensures { result ≡ asks_for value parent pair.now }
 {
     match value {
         None => false,
-        Some(value) => needs_parens_in_place_of(&value, parent, pair),
+        Some(value) => match parent {
+            None => false,
+            Some(parent) => needs_parens_in_place_of(&value, &parent, pair),
+        },
     }
 }
 
 // `((a == b)) == c`: each of the two pairs is needless, but not both. Of pairs in pairs the
 // outermost stays, if what the innermost holds needs it.
-fn is_needed_inside(inside: &SyntaxNode, parent: &SyntaxNode, pair: &SyntaxNode) -> bool
-    ensures { result ≡ is_needed_inside inside.now parent.now pair.now }
+fn is_needed_inside(pair: &SyntaxNode) -> bool
+    ensures { result ≡ is_needed_inside pair.now }
 {
-    is_of_kind(inside, SyntaxKind::PAREN_EXPR)
-        && !is_of_kind(parent, SyntaxKind::PAREN_EXPR)
-        && asks_for(innermost(pair), parent, pair)
+    !is_pair_at(pair.parent())
+        && is_pair_at(first_expr(pair))
+        && asks_for(innermost(pair), pair.parent(), pair)
 }
 
 // Whether the contents of a pair need no parentheses in its place.
@@ -71,7 +74,6 @@ fn inside_may_go(pair: &SyntaxNode) -> bool
             None => false,
             Some(parent) => {
                 !needs_parens_in_place_of(&inside, &parent, pair)
-                    && !is_needed_inside(&inside, &parent, pair)
                     && !is_needed_by_rustc(&inside, &parent, pair)
             }
         },
@@ -99,15 +101,25 @@ fn contents_may_go(node: &SyntaxNode) -> bool
 /// Whether a node is a pair of parentheses, with both parentheses and without attributes, around an
 /// expression for which [`needs_parens_in_place_of`] returns false, and that [`is_needed_by_rustc`]
 /// does not keep; or around a pattern, but for alternatives, ranges and `mut x` in places that do
-/// not take them, such as the `A | B` of `let (A | B) = c` and the `mut x` of `&(mut x)`. Of pairs
-/// directly in each other, the outermost counts as one around what the innermost holds, too.
+/// not take them, such as the `A | B` of `let (A | B) = c` and the `mut x` of `&(mut x)`.
 ///
 /// That test covers operators and statements. If the pair is in something else, such as the arm of
-/// a `match`, only a parse of the text without the pair shows that it is needless.
+/// a `match`, only a parse of the text without the pair shows that it is needless. Each of the two
+/// pairs of `((a + b)) * c` may go alone, since the other one stays; [`may_go`] lets the inner one
+/// go.
+pub fn may_go_alone(node: &SyntaxNode) -> bool
+    ensures { result ≡ may_go_alone node.now }
+{
+    is_bare(node) && contents_may_go(node)
+}
+
+/// Whether a node is a pair that [may go alone](may_go_alone), and that is not the outermost of
+/// pairs directly in each other around an expression that needs parentheses there, as in
+/// `((a == b)) == c`.
 pub fn may_go(node: &SyntaxNode) -> bool
     ensures { result ≡ may_go node.now }
 {
-    is_bare(node) && contents_may_go(node)
+    may_go_alone(node) && !is_needed_inside(node)
 }
 
 /// The needless pairs of a tree by this test, in preorder. If one of them is in another, possibly

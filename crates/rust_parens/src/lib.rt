@@ -11,7 +11,7 @@ mod place;
 mod rustc;
 mod text;
 
-pub use find::{may_go, pairs, parens_of};
+pub use find::{may_go, may_go_alone, pairs, parens_of};
 pub use needless::{Needless, Tried, find_needless, find_needless_among};
 pub use place::{PairPlace, place_of};
 pub use rustc::is_needed_by_rustc;

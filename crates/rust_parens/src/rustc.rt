@@ -67,7 +67,7 @@ fn token_after(pair: &SyntaxNode) -> Option<SyntaxToken>
     next_non_trivia_token(NodeOrToken::Node(share(pair)))
 }
 
-fn is_pair_at(node: Option<SyntaxNode>) -> bool
+pub(crate) fn is_pair_at(node: Option<SyntaxNode>) -> bool
     ensures { result ≡ is_pair_at node }
 {
     match node {
