@@ -57,12 +57,23 @@ fn contexts(rt: HostRuntime) -> Result<(), Fail> {
                 "let x = (1 + 2) * 3;",
             ),
             ("$a.clone() ==>> *$a", "x.clone().len();", "(*x).len();"),
-            ("lt($a, $b) ==>> $a < $b", "lt(lt(a, b), c);", "(a < b) < c;"),
+            (
+                "lt($a, $b) ==>> $a < $b",
+                "lt(lt(a, b), c);",
+                "(a < b) < c;",
+            ),
             (
                 "$a.eq(&$b) ==>> $a == $b",
                 "a.eq(&b).eq(&c);",
                 "(a == b) == c;",
             ),
+            // One pair stays, the user's own if there is one.
+            (
+                "lt($a, $b) ==>> $a < $b",
+                "(lt(a, b)) == c;",
+                "(a < b) == c;",
+            ),
+            ("neg($a) ==>> $a.neg()", "neg((n - 1));", "(n - 1).neg();"),
             ("neg($a) ==>> -$a", "neg(neg(1));", "--1;"),
             ("neg($a) ==>> -$a", "neg(a + b).abs();", "(-(a + b)).abs();"),
             ("abs($a) ==>> $a.abs()", "abs(-1);", "(-1).abs();"),
