@@ -1,7 +1,6 @@
 //! Patterns that rustc refuses without a pair of parentheses where they stand, and that the parser
 //! takes all the same, as `A | B` in `let A | B = x;` and `1..=2` in `&1..=2`.
 ghost use Rattle.std.specs.Prelude.{◌≡◌};
-ghost use Rattle.tree_model.specs.Cursor.{parent_of};
 ghost use Rattle.rust_rewrite.specs.Exposed.{is_dots, is_endless, is_slice, is_in_slice, is_binding, is_prefix, is_exposed, has_exposed};
 
 use lossless_tree::{SyntaxKind, SyntaxNode, SyntaxToken};
