@@ -173,7 +173,18 @@ fn write_node<W: Write>(
     write_line(alloc, out, source, spots, &line, options)
 }
 
-// Writes the line of what a walk enters, if it is listed. Returns whether it is a node that is.
+// What a walk enters.
+#[derive(Clone, Copy)]
+enum Entered {
+    // An item, a variant, a field or a local; what is in it is one level deeper.
+    Item,
+    // A comment that begins a region.
+    Region,
+    // Not listed.
+    Other,
+}
+
+// Writes the line of what a walk enters, if it is listed.
 fn write_entered<W: Write>(
     alloc: Global,
     out: &mut W,
@@ -182,28 +193,29 @@ fn write_entered<W: Write>(
     element: &SyntaxElement,
     depth: usize,
     options: ReportOptions,
-) -> io::Result<bool> {
+) -> io::Result<Entered> {
     match element {
         NodeOrToken::Node(node) => match listed_word(node.kind(), options.has_locals) {
             Some(word) => {
                 write_node(alloc, out, source, spots, node, word, depth, options)?;
-                Ok(true)
+                Ok(Entered::Item)
             }
-            None => Ok(false),
+            None => Ok(Entered::Other),
         },
         NodeOrToken::Token(token) => {
-            if let Some(label) = region_of(token) {
-                let range = token.text_range();
-                let line = Line {
-                    word: "region",
-                    label,
-                    start: range.start(),
-                    range,
-                    depth,
-                };
-                write_line(alloc, out, source, spots, &line, options)?;
-            }
-            Ok(false)
+            let Some(label) = region_of(token) else {
+                return Ok(Entered::Other);
+            };
+            let range = token.text_range();
+            let line = Line {
+                word: "region",
+                label,
+                start: range.start(),
+                range,
+                depth,
+            };
+            write_line(alloc, out, source, spots, &line, options)?;
+            Ok(Entered::Region)
         }
     }
 }
@@ -216,7 +228,7 @@ fn is_level(element: &SyntaxElement, options: ReportOptions) -> bool {
     }
 }
 
-/// Writes the items of a text, each before what is in it. Returns 0: nothing counts as found.
+/// Writes the items of a text, each before what is in it. Returns the number of lines.
 pub fn show<W: Write>(
     alloc: Global,
     out: &mut W,
@@ -226,11 +238,17 @@ pub fn show<W: Write>(
     let parse = parsed(alloc, source.text, options.reading)?;
     let mut spots = spots(alloc, source.text)?;
     let mut depth = 0usize;
+    let mut count = 0u64;
     for event in parse.root().preorder_with_tokens() {
         match event {
             WalkEvent::Enter(element) => {
-                if write_entered(alloc, out, source, &mut spots, &element, depth, options)? {
-                    depth = depth.saturating_add(1);
+                match write_entered(alloc, out, source, &mut spots, &element, depth, options)? {
+                    Entered::Item => {
+                        depth = depth.saturating_add(1);
+                        count = count.saturating_add(1);
+                    }
+                    Entered::Region => count = count.saturating_add(1),
+                    Entered::Other => {}
                 }
             }
             WalkEvent::Leave(element) => {
@@ -240,5 +258,5 @@ pub fn show<W: Write>(
             }
         }
     }
-    Ok(0)
+    Ok(count)
 }

@@ -105,6 +105,11 @@ const FOUND: Noun = Noun {
     many: "found",
 };
 
+const ITEMS: Noun = Noun {
+    one: "item",
+    many: "items",
+};
+
 const ERRORS: Noun = Noun {
     one: "error",
     many: "errors",
@@ -416,7 +421,8 @@ impl Job {
     // The noun for what was found, in the totals.
     fn noun(&self) -> Noun {
         match &self.task {
-            Task::Tree { .. } | Task::Outline | Task::Highlight { ink: _ } => FOUND,
+            Task::Tree { .. } | Task::Highlight { ink: _ } => FOUND,
+            Task::Outline => ITEMS,
             Task::Check | Task::Tokens => ERRORS,
             Task::Parens { then: _ } => PAIRS,
             Task::Query { .. } | Task::Search { .. } | Task::Rewrite { .. } => MATCHES,
@@ -563,10 +569,10 @@ impl Job {
     }
 
     /// The exit status after a run. Pairs of parentheses that were removed do not count as found,
-    /// nor do matches that were replaced.
+    /// nor do matches that were replaced, and a file may have items.
     pub fn status(&self, session: &Session) -> u8 {
         match &self.task {
-            Task::Parens { then: Then::Fix } => session.failed,
+            Task::Outline | Task::Parens { then: Then::Fix } => session.failed,
             Task::Rewrite {
                 then: Then::Fix | Then::Ask,
                 ..
