@@ -106,6 +106,76 @@ fn patterns_that_want_pairs(rt: HostRuntime) -> Result<(), Fail> {
     )
 }
 
+// To rustc `async {} (b)` is a call, `..` and `...` are the last in their lists, and the path of a
+// macro has no arguments; the parser takes all of these.
+#[test]
+fn what_rustc_reads_otherwise(rt: HostRuntime) -> Result<(), Fail> {
+    let refused = [
+        (
+            "unsafe { $$a } ==>> async { $$a }",
+            "fn g() { unsafe { a() } (b) }",
+        ),
+        (
+            "unsafe { $$a } ==>> async move { $$a }",
+            "fn g() { unsafe { a() } /* c */ *p = 1; }",
+        ),
+        (
+            "unsafe { $$a } ==>> gen { $$a }",
+            "fn g() { unsafe { a() } let x = 1; }",
+        ),
+        (
+            "unsafe { $$a } ==>> async { $$a }",
+            "fn g() { match x { c => unsafe { 1 } b => 2 } }",
+        ),
+        (
+            "S { $$f } ==>> T { $$f, x: 1 }",
+            "fn g() { let S { a, .. } = b; }",
+        ),
+        (
+            "fn $f($$p); ==>> fn $f($$p, x: u8);",
+            "extern \"C\" { fn f(a: u8, ...); }",
+        ),
+        ("A ==>> B::<C>", "fn g() { A!() }"),
+        ("A::a ==>> B::<C>::a", "fn g() { A::a!() }"),
+    ];
+    for (rule, file) in &refused {
+        run(
+            rt.alloc(),
+            &[(*rule, *file, "the new text reads otherwise")],
+        )?;
+    }
+    run(
+        rt.alloc(),
+        &[
+            (
+                "unsafe { $$a } ==>> async { $$a }",
+                "fn g() { unsafe { a() }; (b); unsafe { c() } }",
+                "fn g() { async { a() }; (b); async { c() } }",
+            ),
+            (
+                "unsafe { $$a } ==>> async { $$a }",
+                "fn g() { match x { c => unsafe { 1 }, b => unsafe { 2 } } }",
+                "fn g() { match x { c => async { 1 }, b => async { 2 } } }",
+            ),
+            (
+                "S { $$f } ==>> T { x: 1, $$f }",
+                "fn g() { let S { a, .. } = b; }",
+                "fn g() { let T { x: 1, a, .. } = b; }",
+            ),
+            (
+                "fn $f($$p); ==>> fn $f(x: u8, $$p);",
+                "extern \"C\" { fn f(a: u8, ...); }",
+                "extern \"C\" { fn f(x: u8, a: u8, ...); }",
+            ),
+            (
+                "A ==>> b::B",
+                "fn g() { A!(); A::<u8>::f() }",
+                "fn g() { b::B!(); b::B::<u8>::f() }",
+            ),
+        ],
+    )
+}
+
 #[test]
 fn patterns(rt: HostRuntime) -> Result<(), Fail> {
     run(

@@ -302,7 +302,7 @@ pub(crate) const STATS: Row = Row {
     name: "stats",
     takes: Takes::Nothing,
     default: None,
-    conflicts: &["at", "range"],
+    conflicts: &["at", "range", "depth", "no-trivia"],
     help: "Shows the numbers of nodes, tokens, levels and errors instead of the tree",
 };
 

@@ -39,8 +39,8 @@ ranges_of es = map (λ e. e.delete) es
 
 -- the text parses to the tree of the old one in which each match is its rule's template, with what
 -- its placeholders stand for put in, but for white space, comments and pairs of parentheses; with
--- no more errors, those of validation among them; and without a pattern that rustc wants in a pair,
--- unless the old one had such a pattern
+-- no more errors, those of validation among them; and with nothing that rustc refuses or reads
+-- otherwise, unless the old one had such a thing
 pub record ReadsAs (front : Front) (edition : Edition) (rules : List Rule) (old : Parsed) (s : List ℕ) : Type 0 where
   pub parse : Parsed
   pub is_parse : IsParseOf s (front.parsed SourceFile edition s) parse

@@ -276,7 +276,7 @@ fn are_ranges(edit: &TextEdit, ranges: &[TextRange]) -> bool
     }
 }
 
-// Whether a new tree has a pattern that rustc wants in a pair, and the old one has none.
+// Whether a new tree has what rustc refuses or reads otherwise, and the old one has none of it.
 fn exposes(old: &SyntaxNode, new: &SyntaxNode) -> bool
     ensures { result ≡ exposes old.now new.now }
 {
@@ -550,10 +550,10 @@ fn replaced<F: FrontEnd>(
 /// # Errors
 ///
 /// `ReadsOtherwise` if the new text does not parse to the tree that is meant, or with more errors
-/// than the old one, as where an expression stands that is also a name, or if rustc would want a
-/// pair of parentheses round a pattern, as in `let A | B = x;`; `LosesComment` if a comment
-/// is in what stands for a placeholder that the template has not; `TooLong` if it is too long;
-/// `Memory` at any time.
+/// than the old one, as where an expression stands that is also a name, or if it has what rustc
+/// refuses or reads otherwise, as `let A | B = x;` or `async {} (a)`, and the old one has nothing
+/// of the kind; `LosesComment` if a comment is in what stands for a placeholder that the template
+/// has not; `TooLong` if it is too long; `Memory` at any time.
 #[tactic(auto, using(crate::proofs::LossLemmas::memory_refused))]
 pub fn rewrite<F: FrontEnd>(
     alloc: Global,
