@@ -169,8 +169,8 @@ fn what_rustc_reads_otherwise(rt: HostRuntime) -> Result<(), Fail> {
             ),
             (
                 "A ==>> b::B",
-                "fn g() { A!(); A::<u8>::f() }",
-                "fn g() { b::B!(); b::B::<u8>::f() }",
+                "fn g() { A!(); A::f() }",
+                "fn g() { b::B!(); b::B::f() }",
             ),
         ],
     )
