@@ -33,17 +33,8 @@ struct MatchRecord<'a> {
 // The same with what replaces the match.
 #[derive(Drop, Serialize)]
 struct ChangeRecord<'a> {
-    path: &'a str,
-    line: u64,
-    column: u64,
-    start: u32,
-    end: u32,
-    rule: u64,
-    name: &'a str,
-    message: &'a str,
-    severity: &'static str,
-    text: &'a str,
-    cut: bool,
+    #[serde(flatten)]
+    found: MatchRecord<'a>,
     new: &'a str,
     new_cut: bool,
 }
@@ -85,31 +76,30 @@ struct Said<'a> {
     place: &'a Place<'a>,
 }
 
+// Writes a text and a colon, if there is one.
+fn write_part<W: fmt::Write>(f: &mut fmt::Formatter<W>, text: &str) -> fmt::Result {
+    if text.is_empty() {
+        return Ok(());
+    }
+    write!(f, "{}: ", name(text))
+}
+
 impl fmt::Display for Said<'_> {
     fn fmt<W: fmt::Write>(&self, f: &mut fmt::Formatter<W>) -> fmt::Result {
         let place = self.place;
-        if !place.name.is_empty() {
-            write!(f, "{}: ", name(place.name))?;
-        }
-        if !place.message.is_empty() {
-            write!(f, "{}: ", name(place.message))?;
-        }
+        write_part(f, place.name)?;
+        write_part(f, place.message)?;
         write!(f, "{}", short_of(place.text))?;
-        if let Some(new) = place.new {
-            write!(f, " ==>> {}", short_of(new))?;
+        match place.new {
+            None => Ok(()),
+            Some(new) => write!(f, " ==>> {}", short_of(new)),
         }
-        Ok(())
     }
 }
 
-fn write_match<W: Write>(
-    alloc: Global,
-    out: &mut W,
-    place: &Place<'_>,
-    at: Spot,
-) -> io::Result<()> {
+fn record_of<'a>(place: &Place<'a>, at: Spot) -> MatchRecord<'a> {
     let (text, cut) = cut(place.text);
-    let record = MatchRecord {
+    MatchRecord {
         path: place.source.name,
         line: at.line,
         column: at.column,
@@ -121,42 +111,24 @@ fn write_match<W: Write>(
         severity: place.severity().name(),
         text,
         cut,
-    };
-    json::write_line(alloc, out, &record)
-}
-
-fn write_change<W: Write>(
-    alloc: Global,
-    out: &mut W,
-    place: &Place<'_>,
-    new: &str,
-    at: Spot,
-) -> io::Result<()> {
-    let (text, is_cut) = cut(place.text);
-    let (new, new_cut) = cut(new);
-    let record = ChangeRecord {
-        path: place.source.name,
-        line: at.line,
-        column: at.column,
-        start: place.range.start().raw(),
-        end: place.range.end().raw(),
-        rule: place.rule,
-        name: place.name,
-        message: place.message,
-        severity: place.severity().name(),
-        text,
-        cut: is_cut,
-        new,
-        new_cut,
-    };
-    json::write_line(alloc, out, &record)
+    }
 }
 
 fn write_json<W: Write>(alloc: Global, out: &mut W, place: &Place<'_>, at: Spot) -> io::Result<()> {
-    match place.new {
-        None => write_match(alloc, out, place, at),
-        Some(new) => write_change(alloc, out, place, new, at),
-    }
+    let found = record_of(place, at);
+    let Some(new) = place.new else {
+        return json::write_line(alloc, out, &found);
+    };
+    let (new, new_cut) = cut(new);
+    json::write_line(
+        alloc,
+        out,
+        &ChangeRecord {
+            found,
+            new,
+            new_cut,
+        },
+    )
 }
 
 fn write_github<W: Write>(
@@ -175,10 +147,15 @@ fn write_github<W: Write>(
         text: said.as_str(),
         medium: Medium::Message,
     };
-    write!(out, "::{} file={file},", place.severity().command())?;
-    write!(out, "line={},col={},", from.line, from.column)?;
-    write!(out, "endLine={},endColumn={}", to.line, to.column)?;
-    writeln!(out, "::{message}")
+    writeln!(
+        out,
+        "::{} file={file},line={},col={},endLine={},endColumn={}::{message}",
+        place.severity().command(),
+        from.line,
+        from.column,
+        to.line,
+        to.column
+    )
 }
 
 fn write_sarif<W: Write>(

@@ -6,7 +6,7 @@ use lossless_tree::{NodeOrToken, SyntaxElement, SyntaxKind, SyntaxNode, WalkEven
 use std::alloc::{AllocError, Global};
 
 /// A node or a token.
-#[derive(Clone, Copy, Debug)]
+#[derive(Clone, Copy)]
 pub(crate) struct Step {
     depth: usize,
     kind: SyntaxKind,

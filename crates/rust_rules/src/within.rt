@@ -195,7 +195,7 @@ pub(crate) struct Change {
 }
 
 // The changes of a text so far: how many bytes longer and shorter it became.
-#[derive(Clone, Copy, Debug)]
+#[derive(Clone, Copy)]
 struct Shift {
     more: usize,
     fewer: usize,

@@ -111,6 +111,51 @@ fn feeds(text: &str) -> usize {
     text.bytes().filter(|byte| *byte == b'\n').count()
 }
 
+// The numbers of the lines that are next, in the old text and in the new one.
+#[derive(Clone, Copy)]
+struct Next {
+    old: usize,
+    new: usize,
+}
+
+// Writes the lines of a hunk, the first of which have these numbers.
+fn write_changed<W: Write>(out: &mut W, next: Next, old: &[&str], new: &[&str]) -> io::Result<()> {
+    writeln!(
+        out,
+        "@@ -{},{} +{},{} @@",
+        next.old,
+        old.len(),
+        next.new,
+        new.len()
+    )?;
+    write_lines(out, "-", old)?;
+    write_lines(out, "+", new)
+}
+
+// Writes a hunk, and passes over its lines.
+fn write_hunk<W: Write>(
+    alloc: Global,
+    out: &mut W,
+    text: &str,
+    hunk: &mut Hunk,
+    next: &mut Next,
+) -> io::Result<()> {
+    push_old(&mut hunk.new, text, hunk.done, hunk.end)?;
+    let old = lines_of(alloc, text.get(hunk.start..hunk.end).unwrap_or(""))?;
+    let new = lines_of(alloc, hunk.new.as_str())?;
+    write_changed(out, *next, &old, &new)?;
+    next.old = next.old.saturating_add(old.len());
+    next.new = next.new.saturating_add(new.len());
+    Ok(())
+}
+
+// Passes over the lines of a text that is in no hunk.
+fn pass(next: &mut Next, text: &str) {
+    let lines = feeds(text);
+    next.old = next.old.saturating_add(lines);
+    next.new = next.new.saturating_add(lines);
+}
+
 /// Writes a hunk for each run of lines that an edit changes, without context lines. The edit has to
 /// be one of the text.
 pub fn write_hunks<W: Write>(
@@ -119,31 +164,13 @@ pub fn write_hunks<W: Write>(
     text: &str,
     edit: &TextEdit,
 ) -> io::Result<()> {
-    let (mut old_line, mut new_line, mut at) = (1usize, 1usize, 0usize);
-    for hunk in hunks_of(alloc, text, edit)? {
-        let Hunk {
-            start,
-            end,
-            done,
-            mut new,
-        } = hunk;
-        push_old(&mut new, text, done, end)?;
-        let between = feeds(text.get(at..start).unwrap_or(""));
-        let old = lines_of(alloc, text.get(start..end).unwrap_or(""))?;
-        let new = lines_of(alloc, new.as_str())?;
-        old_line = old_line.saturating_add(between);
-        new_line = new_line.saturating_add(between);
-        writeln!(
-            out,
-            "@@ -{old_line},{} +{new_line},{} @@",
-            old.len(),
-            new.len()
-        )?;
-        write_lines(out, "-", &old)?;
-        write_lines(out, "+", &new)?;
-        old_line = old_line.saturating_add(old.len());
-        new_line = new_line.saturating_add(new.len());
-        at = end;
+    let mut next = Next { old: 1, new: 1 };
+    let mut at = 0usize;
+    let mut hunks = hunks_of(alloc, text, edit)?;
+    for hunk in &mut hunks {
+        pass(&mut next, text.get(at..hunk.start).unwrap_or(""));
+        write_hunk(alloc, out, text, hunk, &mut next)?;
+        at = hunk.end;
     }
     Ok(())
 }

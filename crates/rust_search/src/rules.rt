@@ -107,36 +107,59 @@ impl From<AllocError> for RulesError {
     }
 }
 
-// Writes what is wrong with a rule, in the words of the other commands.
-fn write_fault<W: fmt::Write>(f: &mut fmt::Formatter<W>, fault: &RuleFault) -> fmt::Result {
-    match fault {
-        RuleFault::Syntax(message) => write!(f, "this is no {message}"),
-        _ => write!(f, "{fault}"),
+// What is wrong with the rule with a number, at a place of its texts.
+fn write_numbered<W: fmt::Write>(
+    f: &mut fmt::Formatter<W>,
+    number: u64,
+    at: Spot,
+    fault: &RuleFault,
+) -> fmt::Result {
+    write!(f, "rule {number}, {at} of `PATTERN ==>> TEMPLATE`: {fault}")
+}
+
+// What is wrong under a key of the rule with a number.
+fn write_wrong<W: fmt::Write>(
+    f: &mut fmt::Formatter<W>,
+    at: Spot,
+    number: u64,
+    key: &str,
+    expected: &str,
+) -> fmt::Result {
+    write!(f, "{at}: rule {number}: {key}: expected {expected}")
+}
+
+fn write_no_table<W: fmt::Write>(f: &mut fmt::Formatter<W>, at: Spot, found: &str) -> fmt::Result {
+    if found.is_empty() {
+        return write!(f, "{at}: expected a table `[[rule]]`");
     }
+    write!(f, "{at}: expected a table `[[rule]]`, not `{found}`")
+}
+
+fn write_no_template<W: fmt::Write>(
+    f: &mut fmt::Formatter<W>,
+    at: Spot,
+    number: u64,
+    expected: &str,
+) -> fmt::Result {
+    write!(
+        f,
+        "{at}: rule {number}: expected {expected}; only `search` takes a rule without one"
+    )
 }
 
 impl fmt::Display for RulesError {
     fn fmt<W: fmt::Write>(&self, f: &mut fmt::Formatter<W>) -> fmt::Result {
         match self {
-            RulesError::Rule { at, fault } => {
-                write!(f, "{at}: ")?;
-                write_fault(f, fault)
-            }
-            RulesError::Numbered { number, at, fault } => {
-                write!(f, "rule {number}, {at} of `PATTERN ==>> TEMPLATE`: ")?;
-                write_fault(f, fault)
-            }
+            RulesError::Rule { at, fault } => write!(f, "{at}: {fault}"),
+            RulesError::Numbered { number, at, fault } => write_numbered(f, *number, *at, fault),
             RulesError::InFile {
                 file,
                 number,
                 at,
                 fault,
             } => {
-                write!(
-                    f,
-                    "{file}: rule {number}, {at} of `PATTERN ==>> TEMPLATE`: "
-                )?;
-                write_fault(f, fault)
+                write!(f, "{file}: ")?;
+                write_numbered(f, *number, *at, fault)
             }
             RulesError::Toml(message) => f.write_str(message.as_str()),
             RulesError::Wrong {
@@ -144,22 +167,14 @@ impl fmt::Display for RulesError {
                 number,
                 key,
                 expected,
-            } => write!(f, "{at}: rule {number}: {key}: expected {expected}"),
-            RulesError::NoTable { at, found } if found.is_empty() => {
-                write!(f, "{at}: expected a table `[[rule]]`")
-            }
-            RulesError::NoTable { at, found } => {
-                write!(f, "{at}: expected a table `[[rule]]`, not `{found}`")
-            }
+            } => write_wrong(f, *at, *number, key, expected),
+            RulesError::NoTable { at, found } => write_no_table(f, *at, found.as_str()),
             RulesError::Empty => f.write_str("expected a rule"),
             RulesError::NoTemplate {
                 at,
                 number,
                 expected,
-            } => write!(
-                f,
-                "{at}: rule {number}: expected {expected}; only `search` takes a rule without one"
-            ),
+            } => write_no_template(f, *at, *number, expected),
             RulesError::Memory => f.write_str("out of memory"),
         }
     }

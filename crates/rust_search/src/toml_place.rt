@@ -58,14 +58,30 @@ fn is_word(key: &Key, word: &str) -> bool {
     key.path.is_empty() && key.last.as_str() == word
 }
 
+// Whether the key that a text begins with is a word without dots, and what follows the key.
+fn whole_key<'a>(alloc: Global, text: &'a str, word: &str) -> Result<(bool, &'a str), ParseError> {
+    let (key, behind) = dotted_key(alloc, text)?;
+    Ok((is_word(&key, word), behind))
+}
+
+// Whether a word is the first of the key that a text begins with, and what follows the key.
+fn first_of_key<'a>(
+    alloc: Global,
+    text: &'a str,
+    word: &str,
+) -> Result<(bool, &'a str), ParseError> {
+    let (key, behind) = dotted_key(alloc, text)?;
+    Ok((begins_with(&key, word), behind))
+}
+
 // Whether the head of a table is `[[rule]]`, and what follows its brackets.
 fn head<'a>(alloc: Global, text: &'a str) -> Result<(bool, &'a str), ParseError> {
     let (inside, is_list) = match text.strip_prefix("[[") {
         Some(inside) => (inside, true),
         None => (behind_first(text), false),
     };
-    let (key, behind) = dotted_key(alloc, skip_ws(inside))?;
-    Ok((is_list && is_word(&key, "rule"), behind_line(behind)))
+    let (is_rule, behind) = whole_key(alloc, skip_ws(inside), "rule")?;
+    Ok((is_list && is_rule, behind_line(behind)))
 }
 
 /// The offset of the value of a key in the table of the rule with a number, from 1; that of the
@@ -97,9 +113,9 @@ pub(crate) fn value_at(
             }
             rest = behind;
         } else {
-            let (name, behind) = dotted_key(alloc, rest)?;
+            let (is_key, behind) = whole_key(alloc, rest, key)?;
             let value = skip_ws(behind_first(behind));
-            if is_inside && is_word(&name, key) {
+            if is_inside && is_key {
                 return Ok(text.len().saturating_sub(value.len()));
             }
             rest = behind_value(alloc, value)?;
@@ -122,14 +138,14 @@ pub(crate) fn key_at(alloc: Global, text: &str, word: &str) -> Result<usize, Par
         if rest.starts_with('[') {
             is_outside = false;
             let inside = rest.trim_start_matches('[');
-            let (key, behind) = dotted_key(alloc, skip_ws(inside))?;
-            if begins_with(&key, word) {
+            let (is_found, behind) = first_of_key(alloc, skip_ws(inside), word)?;
+            if is_found {
                 return Ok(at);
             }
             rest = behind_line(behind);
         } else {
-            let (key, behind) = dotted_key(alloc, rest)?;
-            if is_outside && begins_with(&key, word) {
+            let (is_found, behind) = first_of_key(alloc, rest, word)?;
+            if is_outside && is_found {
                 return Ok(at);
             }
             rest = behind_value(alloc, skip_ws(behind_first(behind)))?;

@@ -69,6 +69,11 @@ fn text_of<'a>(table: &'a Value, key: &'static str) -> Result<&'a str, Trouble> 
     }
 }
 
+// The same as a text of its own.
+fn copy_of(alloc: Global, table: &Value, key: &'static str) -> Result<String, Trouble> {
+    Ok(String::from_str(alloc, text_of(table, key)?)?)
+}
+
 // The severity of a name.
 fn named(name: &str) -> Result<Severity, Trouble>
     ensures { IfOk result (IsSeverityBy name.now) }
@@ -132,7 +137,7 @@ fn with_value(alloc: Global, pattern: &str, value: &Value, number: u64) -> Resul
 
 // The pattern of a table, with its conditions.
 fn pattern_of(alloc: Global, table: &Value, number: u64) -> Result<String, Trouble> {
-    let mut pattern = String::from_str(alloc, text_of(table, "pattern")?)?;
+    let mut pattern = copy_of(alloc, table, "pattern")?;
     if pattern.is_empty() {
         return Err(Trouble::Value(Fault {
             key: "pattern",
@@ -211,12 +216,12 @@ fn note_of(alloc: Global, table: &Value, number: u64) -> Result<Note, Trouble> {
     refuse_unknown(alloc, table)?;
     Ok(Note {
         number,
-        name: String::from_str(alloc, text_of(table, "name")?)?,
-        message: String::from_str(alloc, text_of(table, "message")?)?,
+        name: copy_of(alloc, table, "name")?,
+        message: copy_of(alloc, table, "message")?,
         severity: severity_of(table)?,
         files: files_of(alloc, table)?,
         pattern: pattern_of(alloc, table, number)?,
-        template: String::from_str(alloc, text_of(table, "template")?)?,
+        template: copy_of(alloc, table, "template")?,
     })
 }
 
