@@ -3,8 +3,8 @@
 //! Each call writes the text of a node, with the texts of the nodes that it is given, and parses it. The node is returned only if the text
 //! has no errors, is exactly that node, and has each given node as a part where it was put: the same tree, in its place. So what is
 //! returned reads as it was meant. It is the root of a tree of its own, which a [`SyntaxEditor`](crate::syntax_editor::SyntaxEditor) puts into
-//! another; the given nodes may be of any trees. A call takes the time of a parse of the text; with operands that need parentheses, of up to
-//! four.
+//! another; the given nodes may be of any trees. A call takes the time of a parse of the text; with operands that need parentheses, or an
+//! expression with a `let`, of up to eight.
 //!
 //! An operand gets a pair of parentheses where it needs one:
 //!
@@ -101,9 +101,27 @@ impl From<ParseError> for MakeError {
 /// assert_eq!(function.syntax().parent(), None);
 /// # Ok::<(), make::MakeError>(())
 /// ```
+///
+/// A text that reads otherwise in its place is tried in a second one, if the place has one: an expression with a `let` is made as a
+/// condition, and a parameter without a type as one of a closure.
 pub fn node<N: AstNode>(text: &str) -> Result<N, MakeError> {
     let row = places::PLACES.iter().find(|it| N::can_cast(it.0)).ok_or(MakeError::NoPlace)?;
-    node_in(row.1, text)
+    match (node_in(row.1, text), second(row.1)) {
+        (Err(error @ (MakeError::Syntax(_) | MakeError::NotOne)), Some(place)) => match node_in(place, text) {
+            Err(MakeError::Syntax(_) | MakeError::NotOne) => Err(error),
+            made => made,
+        },
+        (made, _) => made,
+    }
+}
+
+// Where a text is tried that reads otherwise in a place.
+fn second(place: Place) -> Option<Place> {
+    match place {
+        Place::Expr => Some(Place::Condition),
+        Place::Param => Some(Place::ClosureParam),
+        _ => None,
+    }
 }
 
 /// The node of a text at a place: the outermost node there that is exactly the text and can be an `N`.
@@ -126,6 +144,9 @@ pub enum Piece<'a> {
     Text(&'a str),
     /// A node, by its text.
     Part(&'a SyntaxNode),
+    /// The children of a node, by their texts, each child node as a part: for a node that becomes another one in its new place, as an arm
+    /// with a comma behind it.
+    Children(&'a SyntaxNode),
     /// An operand, by its text, in a pair of parentheses where it needs one: the first, or the only one.
     Left(&'a SyntaxNode),
     /// The second such operand.
@@ -147,11 +168,17 @@ pub enum Pairs {
 
 /// The node of the pieces' texts with these pairs, if it has each part where it was put.
 pub fn form_with<N: AstNode>(pairs: Pairs, pieces: &[Piece<'_>]) -> Result<N, MakeError> {
-    let (mut text, mut parts) = (String::new(), Vec::new());
+    let (mut text, mut parts) = (String::new(), Vec::<(usize, SyntaxNode, bool)>::new());
     for piece in pieces {
         let (node, is_operand, in_pair) = match *piece {
             Piece::Text(fixed) => {
                 text.push_str(fixed);
+                continue;
+            }
+            Piece::Children(node) => {
+                let shift = |child: &SyntaxNode| usize::from(child.text_range().start() - node.text_range().start());
+                parts.extend(node.children().map(|child| (text.len() + shift(&child), child, false)));
+                text.push_str(node.text());
                 continue;
             }
             Piece::Part(node) => (node, false, false),
@@ -159,7 +186,7 @@ pub fn form_with<N: AstNode>(pairs: Pairs, pieces: &[Piece<'_>]) -> Result<N, Ma
             Piece::Right(node) => (node, true, matches!(pairs, Pairs::Right | Pairs::Both)),
         };
         text.push_str(if in_pair { "(" } else { "" });
-        parts.push((text.len(), node, is_operand));
+        parts.push((text.len(), node.clone(), is_operand));
         text.push_str(node.text());
         text.push_str(if in_pair { ")" } else { "" });
     }
@@ -266,6 +293,34 @@ impl<'p> Pieces<'p> {
         self.text(if items.is_empty() { "}" } else { "\n}" });
     }
 
+    // Arms, a line for each, with a comma behind each that needs one and has none.
+    fn arms(&mut self, arms: &'p [ast::MatchArm]) {
+        for arm in arms {
+            let lacks = arm.comma_token().is_none() && !arm.expr().is_some_and(|it| it.is_block_like());
+            self.text("    ");
+            self.0.push(part_unless(lacks, arm.syntax()));
+            self.text(text_if(lacks, ","));
+            self.text("\n");
+        }
+    }
+
+    // Statements, each behind a newline and four blanks; the last one may be the value of the block.
+    fn stmts(&mut self, has_value: bool, stmts: &'p [ast::Stmt]) {
+        for (number, stmt) in stmts.iter().enumerate() {
+            let is_value = number + 1 == stmts.len() && !has_value && is_bare(stmt);
+            self.text("\n    ");
+            self.0.push(part_unless(is_value, stmt.syntax()));
+        }
+    }
+
+    // Nodes with a text between any two, the first one by its children if it changes.
+    fn leading(&mut self, changes: bool, nodes: &'p [impl AstNode], between: &'p str) {
+        for (number, node) in nodes.iter().enumerate() {
+            self.text(if number > 0 { between } else { "" });
+            self.0.push(part_unless(changes && number == 0, node.syntax()));
+        }
+    }
+
     fn made<N: AstNode>(&self) -> Result<N, MakeError> {
         form(&self.0)
     }
@@ -275,6 +330,51 @@ impl<'p> Pieces<'p> {
 fn part_of<N: AstNode>(part: Option<N>) -> Result<N, MakeError> {
     let part = part.ok_or(MakeError::NotOne)?;
     N::cast(part.syntax().clone_subtree()).ok_or(MakeError::NotOne)
+}
+
+// A node by its children, if it becomes another one where it is put; otherwise as a part.
+fn part_unless(changes: bool, node: &SyntaxNode) -> Piece<'_> {
+    if changes { Piece::Children(node) } else { Piece::Part(node) }
+}
+
+// Whether a statement is an expression without a `;`.
+fn is_bare(stmt: &ast::Stmt) -> bool {
+    matches!(stmt, ast::Stmt::ExprStmt(it) if it.semicolon_token().is_none())
+}
+
+// The text, if it is wanted.
+fn text_if(wanted: bool, text: &'static str) -> &'static str {
+    if wanted { text } else { "" }
+}
+
+fn space(is_newline: bool) -> &'static str {
+    if is_newline { "\n" } else { " " }
+}
+
+// What stands before a block behind a node: a newline if the node has one, and else a blank.
+fn block_space(behind: &SyntaxNode) -> &'static str {
+    space(behind.text().contains('\n'))
+}
+
+// Whether an expression ends in a block, so that no `,` or `;` need follow it.
+fn ends_itself(expr: &ast::Expr) -> bool {
+    expr.is_block_like()
+}
+
+// What stands before the body of an arm.
+fn arm_space(guard: Option<&ast::MatchGuard>, body: &ast::Expr) -> &'static str {
+    space(ends_itself(body) && guard.is_some_and(|it| it.syntax().text().contains('\n')))
+}
+
+// A path as a pattern: by its text if that is one name, and otherwise as a part.
+fn pat_piece(path: &SyntaxNode) -> Piece<'_> {
+    let is_name = path.first_token().is_some_and(|it| it.kind() == SyntaxKind::IDENT && it.text() == path.text());
+    if is_name { Piece::Text(path.text()) } else { Piece::Part(path) }
+}
+
+// `r#`, if a word can be a name only behind it.
+fn raw_prefix(text: &str) -> &'static str {
+    text_if(crate::utils::is_raw_identifier(text, Edition::CURRENT), "r#")
 }
 
 fn prefix_text(op: UnaryOp) -> &'static str {

@@ -7,6 +7,10 @@ mod forms;
 #[cfg(test)]
 mod made;
 #[cfg(test)]
+mod parts;
+#[cfg(test)]
 mod replaced;
 #[cfg(test)]
 mod texts;
+#[cfg(test)]
+mod tokens;

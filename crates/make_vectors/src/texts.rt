@@ -82,6 +82,11 @@ fn expressions(rt: HostRuntime) -> Result<(), Fail> {
     )?;
     all_made::<ast::BinExpr>(rt.alloc(), &["a + b"])?;
     all_made::<ast::LetExpr>(rt.alloc(), &["let Some(a) = b"])?;
+    all_made::<ast::Expr>(
+        rt.alloc(),
+        &["let a = b", "let a = b && c", "c && let a = b"],
+    )?;
+    all_made::<ast::BinExpr>(rt.alloc(), &["let a = b && let c = d"])?;
     all_made::<ast::BlockExpr>(rt.alloc(), &["{ let a = 1; a }"])?;
     all_made::<ast::StmtList>(rt.alloc(), &["{ let a = 1; a }"])?;
     all_made::<ast::NameRef>(rt.alloc(), &["a", "self", "r#fn"])
@@ -195,7 +200,7 @@ fn parts_of_items(rt: HostRuntime) -> Result<(), Fail> {
     all_made::<ast::TypeBoundList>(alloc, &["A + B", "?Sized"])?;
     all_made::<ast::TypeBound>(alloc, &["A", "'a"])?;
     all_made::<ast::ParamList>(alloc, &["()", "(&self, a: B)"])?;
-    all_made::<ast::Param>(alloc, &["a: B", "(a, b): C"])?;
+    all_made::<ast::Param>(alloc, &["a: B", "(a, b): C", "a", "_", "&a", "(a, b)"])?;
     all_made::<ast::SelfParam>(alloc, &["self", "&mut self", "self: Box<Self>"])?;
     all_made::<ast::RetType>(alloc, &["-> A"])?;
     all_made::<ast::WhereClause>(alloc, &["where A: B, C: D"])?;
@@ -205,6 +210,10 @@ fn parts_of_items(rt: HostRuntime) -> Result<(), Fail> {
     all_made::<ast::TupleFieldList>(alloc, &["(A, B)"])?;
     all_made::<ast::TupleField>(alloc, &["pub A"])?;
     all_made::<ast::Variant>(alloc, &["A", "A(B)", "A { b: C }", "A = 1"])?;
+    all_made::<rust_views::VariantList>(alloc, &["{ A, B(C) }", "{}"])?;
+    all_made::<rust_views::ParenthesizedArgList>(alloc, &["(A, B)", "()"])?;
+    all_made::<rust_views::Rename>(alloc, &["as a", "as _"])?;
+    all_made::<ast::MacroCall>(alloc, &["m!(a);", "m! {}"])?;
     all_made::<ast::Attr>(alloc, &["#[a]", "#[a(b)]", "#[a = \"b\"]"])?;
     all_made::<ast::Visibility>(alloc, &["pub", "pub(crate)", "pub(in a)"])?;
     all_made::<ast::Abi>(alloc, &["extern \"C\""])?;
@@ -225,6 +234,8 @@ fn parts_of_expressions(rt: HostRuntime) -> Result<(), Fail> {
     all_made::<ast::ArgList>(alloc, &["()", "(a, b)"])?;
     all_made::<ast::RecordExprField>(alloc, &["a", "a: 1"])?;
     all_made::<ast::RecordPatField>(alloc, &["a", "a: 1", "ref a"])?;
+    all_made::<rust_views::RecordExprFieldList>(alloc, &["{ a, b: 1 }", "{}", "{ ..a }"])?;
+    all_made::<rust_views::RecordPatFieldList>(alloc, &["{ a, b: 1, .. }", "{}"])?;
     all_made::<ast::LetElse>(alloc, &["else { a }"])?;
     all_made::<ast::Label>(alloc, &["'a:"])?;
     all_made::<ast::TokenTree>(alloc, &["(a b)", "[1]", "{}"])
@@ -237,7 +248,10 @@ fn refusals(rt: HostRuntime) -> Result<(), Fail> {
     assert_eq!(rt; answer::<ast::Expr>(alloc, "")?, "syntax");
     assert_eq!(rt; answer::<ast::Expr>(alloc, "a; b")?, "syntax");
     assert_eq!(rt; answer::<ast::Expr>(alloc, "a // b")?, "syntax");
-    assert_eq!(rt; answer::<ast::Expr>(alloc, "let a = b")?, "syntax");
+    assert_eq!(rt; answer::<ast::Expr>(alloc, "let a = b;")?, "syntax");
+    assert_eq!(rt; answer::<ast::Expr>(alloc, "let a")?, "syntax");
+    assert_eq!(rt; answer::<ast::MacroCall>(alloc, "m!(a)")?, "syntax");
+    assert_eq!(rt; answer::<ast::Param>(alloc, "a: ")?, "syntax");
     assert_eq!(rt; answer::<ast::Expr>(alloc, "'ab'")?, "syntax");
     assert_eq!(rt; answer::<ast::Expr>(alloc, "a ")?, "not one");
     assert_eq!(rt; answer::<ast::Expr>(alloc, " a")?, "not one");

@@ -1,14 +1,15 @@
 //! Expressions with blocks, jumps, arms and statements.
-ghost use Rattle.std.specs.Prelude.{◌∷◌, [], codes, ◌++◌, option_map, map};
+ghost use Rattle.std.specs.Prelude.{◌∷◌, [], codes, ◌++◌, option_map, map, not, is_some};
 ghost use Rattle.ra_ap_syntax.specs.ElseBranchCases.{else_branch_node};
 ghost use Rattle.ra_ap_syntax.specs.ExprCases.{expr_node};
 ghost use Rattle.ra_ap_syntax.specs.PatCases.{pat_node};
 ghost use Rattle.ra_ap_syntax.specs.StmtCases.{stmt_node};
 ghost use Rattle.ra_ap_syntax.specs.TypeCases.{ty_node};
 ghost use Rattle.syntax_make.specs.Forms.{fixed, part, left};
-ghost use Rattle.rust_make.specs.Makes.{IsMadeOf, optional, separated, each_between};
+ghost use Rattle.rust_make.specs.Makes.{IsMadeOf, optional, separated, block_space, arm_space, ends_itself, text_if, arm_bits, stmt_bits};
 
 use crate::make::Make;
+use crate::signs::{arm_space, block_space, ends_itself, text_if};
 use ra_ap_syntax::ast::{self, AstNode};
 use ras_front_end::FrontEnd;
 use syntax_make::{MakeError, Piece};
@@ -35,7 +36,8 @@ impl<'a, F: FrontEnd> Make<'a, F> {
     }
 
     /// An `if`, with its `else` if there is one: `if a { b } else { c }`. A record as the condition
-    /// gets a pair.
+    /// gets a pair. Behind a condition of several lines the block is on a line of its own, as it is
+    /// behind the operands of the loops and of `match`.
     pub fn expr_if<'p>(
         &self,
         condition: &'p ast::Expr,
@@ -44,7 +46,8 @@ impl<'a, F: FrontEnd> Make<'a, F> {
     ) -> Result<ast::IfExpr, MakeError>
         ensures { IsMadeOf ⟦<ast::IfExpr as AstNode>⟧ (F.answers self.now.front.now)
             self.now.edition
-            (fixed (codes "if ") ∷ left (expr_node condition.now) ∷ fixed (codes " ") ∷
+            (fixed (codes "if ") ∷ left (expr_node condition.now) ∷
+            fixed (block_space (expr_node condition.now)) ∷
             part (⟦<ast::BlockExpr as AstNode>⟧.node then_branch.now) ∷
             (optional (codes " else ")
             (option_map (λ it. else_branch_node it.now) else_branch.entry)))
@@ -53,7 +56,7 @@ impl<'a, F: FrontEnd> Make<'a, F> {
         let mut form = self.pieces();
         form.text("if ")?;
         form.left(condition)?;
-        form.text(" ")?;
+        form.text(block_space(condition.syntax()))?;
         form.part(then_branch)?;
         form.optional(" else ", else_branch)?;
         self.made(&form)
@@ -67,16 +70,27 @@ impl<'a, F: FrontEnd> Make<'a, F> {
     ) -> Result<ast::WhileExpr, MakeError>
         ensures { IsMadeOf ⟦<ast::WhileExpr as AstNode>⟧ (F.answers self.now.front.now)
             self.now.edition
-            (fixed (codes "while ") ∷ left (expr_node condition.now) ∷ fixed (codes " ") ∷
+            (fixed (codes "while ") ∷ left (expr_node condition.now) ∷
+            fixed (block_space (expr_node condition.now)) ∷
             part (⟦<ast::BlockExpr as AstNode>⟧.node body.now) ∷ [])
             result }
     {
         self.form(&[
             Piece::Text("while "),
             Piece::Left(condition.syntax()),
-            Piece::Text(" "),
+            Piece::Text(block_space(condition.syntax())),
             Piece::Part(body.syntax()),
         ])
+    }
+
+    /// A `loop`: `loop { a }`.
+    pub fn expr_loop(&self, body: &ast::BlockExpr) -> Result<ast::LoopExpr, MakeError>
+        ensures { IsMadeOf ⟦<ast::LoopExpr as AstNode>⟧ (F.answers self.now.front.now)
+            self.now.edition
+            (fixed (codes "loop ") ∷ part (⟦<ast::BlockExpr as AstNode>⟧.node body.now) ∷ [])
+            result }
+    {
+        self.form(&[Piece::Text("loop "), Piece::Part(body.syntax())])
     }
 
     /// A `for`: `for p in a { b }`.
@@ -89,7 +103,7 @@ impl<'a, F: FrontEnd> Make<'a, F> {
         ensures { IsMadeOf ⟦<ast::ForExpr as AstNode>⟧ (F.answers self.now.front.now)
             self.now.edition
             (fixed (codes "for ") ∷ part (pat_node pat.now) ∷ fixed (codes " in ") ∷
-            left (expr_node iterable.now) ∷ fixed (codes " ") ∷
+            left (expr_node iterable.now) ∷ fixed (block_space (expr_node iterable.now)) ∷
             part (⟦<ast::BlockExpr as AstNode>⟧.node body.now) ∷ [])
             result }
     {
@@ -98,7 +112,7 @@ impl<'a, F: FrontEnd> Make<'a, F> {
             Piece::Part(pat.syntax()),
             Piece::Text(" in "),
             Piece::Left(iterable.syntax()),
-            Piece::Text(" "),
+            Piece::Text(block_space(iterable.syntax())),
             Piece::Part(body.syntax()),
         ])
     }
@@ -111,14 +125,15 @@ impl<'a, F: FrontEnd> Make<'a, F> {
     ) -> Result<ast::MatchExpr, MakeError>
         ensures { IsMadeOf ⟦<ast::MatchExpr as AstNode>⟧ (F.answers self.now.front.now)
             self.now.edition
-            (fixed (codes "match ") ∷ left (expr_node expr.now) ∷ fixed (codes " ") ∷
+            (fixed (codes "match ") ∷ left (expr_node expr.now) ∷
+            fixed (block_space (expr_node expr.now)) ∷
             part (⟦<ast::MatchArmList as AstNode>⟧.node arms.now) ∷ [])
             result }
     {
         self.form(&[
             Piece::Text("match "),
             Piece::Left(expr.syntax()),
-            Piece::Text(" "),
+            Piece::Text(block_space(expr.syntax())),
             Piece::Part(arms.syntax()),
         ])
     }
@@ -198,7 +213,9 @@ impl<'a, F: FrontEnd> Make<'a, F> {
         self.made(&form)
     }
 
-    /// An arm, with its guard if there is one, and a comma: `p if a => b,`.
+    /// An arm, with its guard if there is one: `p if a => b,`. It ends with a comma, unless its
+    /// body ends in a block: `p => { b }`. A body with a block behind a guard of several lines is
+    /// on a line of its own.
     pub fn match_arm<'p>(
         &self,
         pat: &'p ast::Pat,
@@ -210,37 +227,50 @@ impl<'a, F: FrontEnd> Make<'a, F> {
             (part (pat_node pat.now) ∷
             (optional (codes " ")
             (option_map (λ it. ⟦<ast::MatchGuard as AstNode>⟧.node it.now) guard.entry)
-            ++ (fixed (codes " => ") ∷
-            part (expr_node expr.now) ∷ fixed (codes ",") ∷ [])))
+            ++ (fixed (codes " =>") ∷
+            fixed (arm_space (option_map (λ it. ⟦<ast::MatchGuard as AstNode>⟧.node it.now)
+            guard.entry) (expr_node expr.now)) ∷ part (expr_node expr.now) ∷
+            fixed (text_if (not (ends_itself (expr_node expr.now))) (codes ",")) ∷ [])))
             result }
     {
         let mut form = self.pieces();
         form.part(pat)?;
         form.optional(" ", guard)?;
-        form.text(" => ")?;
+        form.text(" =>")?;
+        form.text(arm_space(guard, expr))?;
         form.part(expr)?;
-        form.text(",")?;
+        form.text(text_if(!ends_itself(expr), ","))?;
         self.made(&form)
     }
 
-    /// Arms, a line for each.
+    /// The guard of an arm: `if a`. The condition may be a `let`.
+    pub fn match_guard(&self, condition: &ast::Expr) -> Result<ast::MatchGuard, MakeError>
+        ensures { IsMadeOf ⟦<ast::MatchGuard as AstNode>⟧ (F.answers self.now.front.now)
+            self.now.edition
+            (fixed (codes "if ") ∷ part (expr_node condition.now) ∷ [])
+            result }
+    {
+        self.form(&[Piece::Text("if "), Piece::Part(condition.syntax())])
+    }
+
+    /// Arms, a line for each. An arm without a comma gets one, unless its body ends in a block.
     pub fn match_arm_list(&self, arms: &[ast::MatchArm]) -> Result<ast::MatchArmList, MakeError>
         ensures { IsMadeOf ⟦<ast::MatchArmList as AstNode>⟧ (F.answers self.now.front.now)
             self.now.edition
             (fixed (codes "{\n") ∷
-            (each_between (codes "    ") (codes "\n")
-            (map ⟦<ast::MatchArm as AstNode>⟧.node arms.now) ++ (fixed (codes "}") ∷
-            [])))
+            (arm_bits (map ⟦<ast::MatchArm as AstNode>⟧.node arms.now)
+            ++ (fixed (codes "}") ∷ [])))
             result }
     {
         let mut form = self.pieces();
         form.text("{\n")?;
-        form.each("    ", arms, "\n")?;
+        form.arms(arms)?;
         form.text("}")?;
         self.made(&form)
     }
 
-    /// A block of statements, and its value if there is one: a line for each.
+    /// A block of statements, and its value if there is one: a line for each. Without a value, the
+    /// last statement may be an expression without a `;`, which then is the block's value.
     pub fn block_expr<'p>(
         &self,
         stmts: &'p [ast::Stmt],
@@ -249,7 +279,7 @@ impl<'a, F: FrontEnd> Make<'a, F> {
         ensures { IsMadeOf ⟦<ast::BlockExpr as AstNode>⟧ (F.answers self.now.front.now)
             self.now.edition
             (fixed (codes "{") ∷
-            (each_between (codes "\n    ") (codes "") (map stmt_node stmts.now)
+            (stmt_bits (is_some tail_expr.entry) (map stmt_node stmts.now)
             ++ (optional (codes "\n    ") (option_map (λ it. expr_node it.now) tail_expr.entry)
             ++ (fixed (codes "\n}") ∷
             []))))
@@ -257,20 +287,24 @@ impl<'a, F: FrontEnd> Make<'a, F> {
     {
         let mut form = self.pieces();
         form.text("{")?;
-        form.each("\n    ", stmts, "")?;
+        form.stmts(tail_expr.is_some(), stmts)?;
         form.optional("\n    ", tail_expr)?;
         form.text("\n}")?;
         self.made(&form)
     }
 
-    /// An expression as a statement: `a;`.
+    /// An expression as a statement: `a;`. One that ends in a block has no `;`: `loop {}`.
     pub fn expr_stmt(&self, expr: &ast::Expr) -> Result<ast::ExprStmt, MakeError>
         ensures { IsMadeOf ⟦<ast::ExprStmt as AstNode>⟧ (F.answers self.now.front.now)
             self.now.edition
-            (part (expr_node expr.now) ∷ fixed (codes ";") ∷ [])
+            (part (expr_node expr.now) ∷
+            fixed (text_if (not (ends_itself (expr_node expr.now))) (codes ";")) ∷ [])
             result }
     {
-        self.form(&[Piece::Part(expr.syntax()), Piece::Text(";")])
+        self.form(&[
+            Piece::Part(expr.syntax()),
+            Piece::Text(text_if(!ends_itself(expr), ";")),
+        ])
     }
 
     /// A `let`, with its type and its value if there are such: `let p: A = b;`.

@@ -2,6 +2,7 @@
 //! that it is given, has them as parts, and puts parentheses round an operand where it needs them.
 #![tactic(auto)]
 
+mod bounds;
 mod control;
 mod exprs;
 mod items;
@@ -9,8 +10,13 @@ mod make;
 mod names;
 mod pats;
 mod pieces;
+mod records;
+mod signs;
 mod texts;
+mod token_texts;
+mod tokens;
 mod types;
+mod uses;
 
 pub use make::Make;
 pub use syntax_make::{MakeError, Place, ReplaceExprError, Replaced};

@@ -23,7 +23,7 @@ use syntax_make::{MakeError, Piece, ReplaceExprError, Replaced, form, node, repl
 ///
 /// An operand gets a pair of parentheses where it needs one: `expr_bin_op` of `a + b`, `*` and `c`
 /// is `(a + b) * c`. A call takes the time of a parse of the text; with operands that need pairs,
-/// of up to four.
+/// or an expression with a `let`, of up to eight.
 ///
 /// # Errors
 ///
@@ -38,9 +38,9 @@ use syntax_make::{MakeError, Piece, ReplaceExprError, Replaced, form, node, repl
 /// ```
 #[derive(Drop)]
 pub struct Make<'a, F: FrontEnd> {
-    alloc: Global,
-    front: &'a F,
-    edition: Edition,
+    pub(crate) alloc: Global,
+    pub(crate) front: &'a F,
+    pub(crate) edition: Edition,
 }
 
 impl<'a, F: FrontEnd> Make<'a, F> {

@@ -1,34 +1,60 @@
 //! Names, paths and generic arguments.
-ghost use Rattle.std.specs.Prelude.{◌∷◌, [], codes, ◌++◌, map};
+ghost use Rattle.std.specs.Prelude.{◌≡◌, ◌∷◌, [], codes, ◌++◌, map};
 ghost use Rattle.ra_ap_syntax.specs.GenericArgCases.{generic_arg_node};
 ghost use Rattle.ra_ap_syntax.specs.GenericParamCases.{generic_param_node};
 ghost use Rattle.ra_ap_syntax.specs.TypeCases.{ty_node};
+ghost use Rattle.tree_model.specs.Tree.{text};
+ghost use Rattle.tree_model.specs.Cursor.{focus};
 ghost use Rattle.syntax_make.specs.Forms.{fixed, part};
-ghost use Rattle.rust_make.specs.Makes.{IsMadeOf, separated};
+ghost use Rattle.rust_make.specs.Makes.{IsMadeOf, separated, raw_prefix, leading_bits, text_if};
 
 use crate::make::Make;
+use crate::signs::text_if;
 use ra_ap_syntax::ast::{self, AstNode};
+use ra_ap_syntax::utils::is_raw_identifier;
 use ras_front_end::FrontEnd;
 use syntax_make::{MakeError, Piece};
 
 impl<'a, F: FrontEnd> Make<'a, F> {
-    /// A name that is defined: `a`.
-    pub fn name(&self, text: &str) -> Result<ast::Name, MakeError>
-        ensures { IsMadeOf ⟦<ast::Name as AstNode>⟧ (F.answers self.now.front.now) self.now.edition
+    // `r#`, if a word can be a name only behind it.
+    fn raw_prefix(&self, text: &str) -> &'static str
+        ensures { result.now
+            ≡ raw_prefix (F.answers self.now.front.now) self.now.edition text.now }
+    {
+        text_if(is_raw_identifier(text, self.front, self.edition), "r#")
+    }
+
+    /// A lifetime with its sign: `'a`. Without the sign it is refused.
+    pub fn lifetime(&self, text: &str) -> Result<ast::Lifetime, MakeError>
+        ensures { IsMadeOf ⟦<ast::Lifetime as AstNode>⟧ (F.answers self.now.front.now)
+            self.now.edition
             (fixed text.now ∷ [])
             result }
     {
         self.form(&[Piece::Text(text)])
     }
 
-    /// A name that is used: `a`.
+    /// A name that is defined: `a`. A keyword of the edition gets `r#`: `r#type`. `self`, `super`,
+    /// `crate` and `Self` cannot be such names, and are refused.
+    pub fn name(&self, text: &str) -> Result<ast::Name, MakeError>
+        ensures { IsMadeOf ⟦<ast::Name as AstNode>⟧ (F.answers self.now.front.now) self.now.edition
+            (fixed (raw_prefix (F.answers self.now.front.now) self.now.edition text.now) ∷
+            fixed text.now ∷ [])
+            result }
+    {
+        self.form(&[Piece::Text(self.raw_prefix(text)), Piece::Text(text)])
+    }
+
+    /// A name that is used: `a`. A keyword of the edition gets `r#`: `r#type`; but `self`, `super`,
+    /// `crate` and `Self` stay as they are.
     pub fn name_ref(&self, text: &str) -> Result<ast::NameRef, MakeError>
         ensures { IsMadeOf ⟦<ast::NameRef as AstNode>⟧ (F.answers self.now.front.now)
             self.now.edition
-            (fixed text.now ∷ [])
+            (fixed (raw_prefix (F.answers self.now.front.now) self.now.edition text.now) ∷
+            fixed text.now ∷ [])
             result }
     {
-        self.form(&[Piece::Text(text)])
+        self.form(&[Piece::Text(self.raw_prefix(text)), Piece::Text(text)])
     }
 
     /// A path, as in a type: `a::b<C>`.
@@ -40,13 +66,14 @@ impl<'a, F: FrontEnd> Make<'a, F> {
         self.form(&[Piece::Text(text)])
     }
 
-    /// A path of one name: `a`.
+    /// A path of one name: `a`. A keyword of the edition gets `r#`, as in `name_ref`.
     pub fn ident_path(&self, text: &str) -> Result<ast::Path, MakeError>
         ensures { IsMadeOf ⟦<ast::Path as AstNode>⟧ (F.answers self.now.front.now) self.now.edition
-            (fixed text.now ∷ [])
+            (fixed (raw_prefix (F.answers self.now.front.now) self.now.edition text.now) ∷
+            fixed text.now ∷ [])
             result }
     {
-        self.form(&[Piece::Text(text)])
+        self.form(&[Piece::Text(self.raw_prefix(text)), Piece::Text(text)])
     }
 
     /// A segment without generic arguments.
@@ -84,6 +111,44 @@ impl<'a, F: FrontEnd> Make<'a, F> {
             Piece::Text("::"),
             Piece::Part(segment.syntax()),
         ])
+    }
+
+    /// A path and another one behind it: `a::b::c`. The second one is put by its text, since its
+    /// segments become those of one longer path.
+    pub fn path_concat<'p>(
+        &self,
+        first: &'p ast::Path,
+        second: &'p ast::Path,
+    ) -> Result<ast::Path, MakeError>
+        ensures { IsMadeOf ⟦<ast::Path as AstNode>⟧ (F.answers self.now.front.now) self.now.edition
+            (part (⟦<ast::Path as AstNode>⟧.node first.now) ∷ fixed (codes "::") ∷
+            fixed (text (focus (⟦<ast::Path as AstNode>⟧.node second.now))) ∷ [])
+            result }
+    {
+        self.form(&[
+            Piece::Part(first.syntax()),
+            Piece::Text("::"),
+            Piece::Text(second.syntax().as_str()),
+        ])
+    }
+
+    /// A path of segments, from the root if `is_abs`: `a::b`, `::a::b`. Of no segments it is
+    /// refused.
+    pub fn path_from_segments(
+        &self,
+        segments: &[ast::PathSegment],
+        is_abs: bool,
+    ) -> Result<ast::Path, MakeError>
+        ensures { IsMadeOf ⟦<ast::Path as AstNode>⟧ (F.answers self.now.front.now) self.now.edition
+            (fixed (text_if is_abs (codes "::")) ∷
+            leading_bits is_abs (codes "::")
+            (map ⟦<ast::PathSegment as AstNode>⟧.node segments.now))
+            result }
+    {
+        let mut form = self.pieces();
+        form.text(text_if(is_abs, "::"))?;
+        form.leading(is_abs, segments, "::")?;
+        self.made(&form)
     }
 
     /// A type as a generic argument.

@@ -11,7 +11,8 @@ use Rattle.ras_front_end.specs.Front.{Front}
 use Rattle.syntax_make.specs.declared.error.MakeError.{MakeError}
 use Rattle.syntax_make.specs.declared.from_parts.Part.{Part}
 use Rattle.syntax_make.specs.declared.from_parts.Pairs.{Pairs}
-use Rattle.syntax_make.specs.Forms.{Bit, are_parts, is_misread, IsRefusedWith, IsMisread, IsNoFormOf}
+use Rattle.syntax_make.specs.Failures.{is_misread}
+use Rattle.syntax_make.specs.Forms.{Bit, are_parts, IsRefusedWith, IsMisread, IsNoFormOf}
 
 and_true : (b : Bool) → (b && true) ≡ b
 and_true true = refl

@@ -1,3 +1,4 @@
 pub mod PairLemmas
 pub mod FormLemmas
 pub mod OperandLemmas
+pub mod SecondLemmas

@@ -5,14 +5,17 @@ use Rattle.std.specs.Cmp.Lexicographic.{pointwise}
 use Rattle.syntax_kind.specs.declared.syntax_kind.SyntaxKind.{SyntaxKind}
 use Rattle.syntax_kind.specs.Kinds.{is_same_kind}
 use Rattle.tree_model.specs.Tree.{text}
-use Rattle.tree_model.specs.Cursor.{Cursor, focus, range_start, parent_of, descendants_of, at_node}
+use Rattle.tree_model.specs.Cursor.{Cursor, focus, range_start, parent_of, children_of, descendants_of, at_node}
+use Rattle.lossless_tree.specs.declared.cursor.element.NodeOrToken.{NodeOrToken}
+use Rattle.lossless_tree.specs.declared.cursor.element.NodeOrToken.TheVariants.{Node, Token}
+use Rattle.lossless_tree.specs.Element.{element_of}
 use Rattle.tree_model.specs.Equality.{is_same_tree}
 use Rattle.ras_node.specs.Nodes.{kind_at}
 use Rattle.ras_prec.specs.Rules.{asks}
 use Rattle.ras_front_end.specs.declared.edition.Edition.{Edition}
 use Rattle.ras_front_end.specs.Front.{Front}
 use Rattle.syntax_make.specs.declared.error.MakeError.{MakeError}
-use Rattle.syntax_make.specs.declared.error.MakeError.TheVariants.{Syntax, NotOne, NoPlace, TooLong, Memory}
+use Rattle.syntax_make.specs.declared.error.MakeError.TheVariants.{NotOne, Memory}
 use Rattle.syntax_make.specs.declared.from_parts.Part.{Part}
 use Rattle.syntax_make.specs.declared.from_parts.Draft.{Draft}
 use Rattle.syntax_make.specs.declared.from_parts.Piece.{Piece}
@@ -20,19 +23,22 @@ use Rattle.syntax_make.specs.declared.from_parts.Piece.TheVariants as piece
 use Rattle.syntax_make.specs.declared.from_parts.Pairs.{Pairs}
 use Rattle.syntax_make.specs.declared.from_parts.Pairs.TheVariants.{Neither, Right, Left, Both}
 use Rattle.syntax_make.specs.Places.{place_of}
+use Rattle.syntax_make.specs.Failures.{is_misread}
 use Rattle.syntax_make.specs.Made.{IsMadeAt, IsRefusedAt}
 
--- a fixed text; a node by its text; and an operand, which may get a pair of parentheses: the first
--- or the only one, or the second
+-- a fixed text; a node by its text; the children of a node by their texts; and an operand, which
+-- may get a pair of parentheses: the first or the only one, or the second
 pub data Bit : Type 0 where
   fixed : List ℕ → Bit
   part : Cursor → Bit
+  children : Cursor → Bit
   left : Cursor → Bit
   right : Cursor → Bit
 
 abbrev pub bit_of : Piece → Bit
 bit_of (piece.Text s) = fixed s.now
 bit_of (piece.Part c) = part c.now
+bit_of (piece.Children c) = children c.now
 bit_of (piece.Left c) = left c.now
 bit_of (piece.Right c) = right c.now
 
@@ -79,9 +85,23 @@ with_part is_operand d c =
 abbrev pub with_operand : Bool → Drafted → Cursor → Drafted
 with_operand pair d c = with_text (with_part true (with_text d (opening pair)) c) (closing pair)
 
+-- with a node or a token behind; with several
+abbrev pub with_element : Drafted → NodeOrToken Cursor Cursor → Drafted
+with_element d (Node c) = with_part false d c
+with_element d (Token c) = with_text d (text (focus c))
+
+abbrev pub with_elements : Drafted → List (NodeOrToken Cursor Cursor) → Drafted
+with_elements d [] = d
+with_elements d (e ∷ es) = with_elements (with_element d e) es
+
+-- with the children of a node behind
+abbrev pub with_children : Drafted → Cursor → Drafted
+with_children d c = with_elements d (map element_of (children_of c))
+
 abbrev pub with_bit : Pairs → Drafted → Bit → Drafted
 with_bit pairs d (fixed s) = with_text d s
 with_bit pairs d (part c) = with_part false d c
+with_bit pairs d (children c) = with_children d c
 with_bit pairs d (left c) = with_operand (has_left pairs) d c
 with_bit pairs d (right c) = with_operand (has_right pairs) d c
 
@@ -135,14 +155,6 @@ pub record LacksPart (front : Front) (edition : Edition) (casts : SyntaxKind →
 abbrev pub IsRefusedWith : Front → Edition → (SyntaxKind → Bool) → Pairs → List Bit → MakeError → Type 0
 IsRefusedWith front edition casts pairs bits e =
     (e ≡ Memory) ⊎ IsRefusedAt front edition (place_of casts) casts (draft_of pairs bits).text e ⊎ ((e ≡ NotOne) × LacksPart front edition casts pairs bits)
-
--- a refusal that depends on what the text reads as
-abbrev pub is_misread : MakeError → Bool
-is_misread (Syntax fault) = true
-is_misread NotOne = true
-is_misread NoPlace = false
-is_misread TooLong = false
-is_misread Memory = false
 
 -- with these pairs the text does not read as what is meant, or needs further pairs
 pub record IsMisread (front : Front) (edition : Edition) (casts : SyntaxKind → Bool) (bits : List Bit) (pairs : Pairs) : Type 0 where

@@ -1,5 +1,5 @@
 -- Nodes that are made from a text.
-use Rattle.std.specs.Prelude.{◌≡◌, ℕ, ◌≤◌, ◌^◌, ◌==◌, Bool, ◌&&◌, List, [], ◌∷◌, length, Option, Some, None, ⊤}
+use Rattle.std.specs.Prelude.{◌≡◌, ℕ, ◌≤◌, ◌^◌, ◌==◌, ◌⊎◌, Bool, true, false, ◌&&◌, List, [], ◌∷◌, length, Option, Some, None, ⊤}
 use Rattle.std.specs.List.{filter, find}
 use Rattle.std.specs.Cmp.Lexicographic.{pointwise}
 use Rattle.syntax_kind.specs.declared.syntax_kind.SyntaxKind.{SyntaxKind}
@@ -16,7 +16,8 @@ use Rattle.ras_parsing.specs.AllErrors.{all_errors}
 use Rattle.syntax_make.specs.declared.place.Place.{Place}
 use Rattle.syntax_make.specs.declared.error.MakeError.{MakeError}
 use Rattle.syntax_make.specs.declared.error.MakeError.TheVariants.{Syntax, NotOne, NoPlace, TooLong, Memory}
-use Rattle.syntax_make.specs.Places.{before_of, in_place}
+use Rattle.syntax_make.specs.Places.{before_of, second_of, in_place}
+use Rattle.syntax_make.specs.Failures.{is_misread}
 
 -- the parse of a text as a file
 abbrev pub IsFileOf : Front → Edition → List ℕ → Parsed → Type 0
@@ -71,14 +72,48 @@ IsRefusedIn front edition place casts s NoPlace = ⊥
 IsRefusedIn front edition place casts s TooLong = 2 ^ 32 ≤ length (in_place place s)
 IsRefusedIn front edition place casts s Memory = ⊤
 
+-- at this place the text does not read as such a node
+pub record IsMisreadIn (front : Front) (edition : Edition) (place : Place) (casts : SyntaxKind → Bool) (s : List ℕ) : Type 0 where
+  pub error : MakeError
+  pub refused : IsRefusedIn front edition place casts s error
+  pub misread : is_misread error ≡ true
+
+-- made at the second place, if there is one; misread there, or there is none; and refused there for
+-- another reason than what the text reads as
+abbrev pub IsMadeSecond : Front → Edition → Option Place → (SyntaxKind → Bool) → List ℕ → Cursor → Type 0
+IsMadeSecond front edition None casts s made = ⊥
+IsMadeSecond front edition (Some place) casts s made = IsMadeIn front edition place casts s made
+
+abbrev pub IsMisreadSecond : Front → Edition → Option Place → (SyntaxKind → Bool) → List ℕ → Type 0
+IsMisreadSecond front edition None casts s = ⊤
+IsMisreadSecond front edition (Some place) casts s = IsMisreadIn front edition place casts s
+
+abbrev pub IsStoppedSecond : Front → Edition → Option Place → (SyntaxKind → Bool) → List ℕ → MakeError → Type 0
+IsStoppedSecond front edition None casts s e = ⊥
+IsStoppedSecond front edition (Some place) casts s e = IsRefusedIn front edition place casts s e × (is_misread e ≡ false)
+
+-- made at this place, or at the second one if it is misread here
+abbrev pub IsMadeFrom : Front → Edition → Place → (SyntaxKind → Bool) → List ℕ → Cursor → Type 0
+IsMadeFrom front edition place casts s made =
+    IsMadeIn front edition place casts s made
+    ⊎ (IsMisreadIn front edition place casts s × IsMadeSecond front edition (second_of place) casts s made)
+
+-- refused here for another reason than what the text reads as; misread here, and so where else it
+-- is tried; or misread here, and refused there for another reason
+abbrev pub IsRefusedFrom : Front → Edition → Place → (SyntaxKind → Bool) → List ℕ → MakeError → Type 0
+IsRefusedFrom front edition place casts s e =
+    (IsRefusedIn front edition place casts s e × (is_misread e ≡ false))
+    ⊎ ((IsRefusedIn front edition place casts s e × (is_misread e ≡ true)) × IsMisreadSecond front edition (second_of place) casts s)
+    ⊎ (IsMisreadIn front edition place casts s × IsStoppedSecond front edition (second_of place) casts s e)
+
 -- at the place of a view's kinds, if there is one
 abbrev pub IsMadeAt : Front → Edition → Option Place → (SyntaxKind → Bool) → List ℕ → Cursor → Type 0
 IsMadeAt front edition None casts s made = ⊥
-IsMadeAt front edition (Some place) casts s made = IsMadeIn front edition place casts s made
+IsMadeAt front edition (Some place) casts s made = IsMadeFrom front edition place casts s made
 
 abbrev pub IsRefusedAt : Front → Edition → Option Place → (SyntaxKind → Bool) → List ℕ → MakeError → Type 0
 IsRefusedAt front edition None casts s e = e ≡ NoPlace
-IsRefusedAt front edition (Some place) casts s e = IsRefusedIn front edition place casts s e
+IsRefusedAt front edition (Some place) casts s e = IsRefusedFrom front edition place casts s e
 
 -- why a file is not parsed without errors
 abbrev pub IsUnclean : Front → Edition → List ℕ → MakeError → Type 0

@@ -1,9 +1,9 @@
 -- The surroundings in which a text is parsed.
-use Rattle.std.specs.Prelude.{ℕ, Bool, List, [], ◌++◌, Option, option_map, codes}
+use Rattle.std.specs.Prelude.{ℕ, Bool, List, [], ◌++◌, Option, Some, None, option_map, codes}
 use Rattle.std.specs.List.{find}
 use Rattle.syntax_kind.specs.declared.syntax_kind.SyntaxKind.{SyntaxKind}
 use Rattle.syntax_make.specs.declared.place.Place.{Place}
-use Rattle.syntax_make.specs.declared.place.Place.TheVariants.{Stmt, File, Expr, Condition, Ty, Pat, Name, Lifetime, Binder, GenericArgs, GenericArg, GenericParams, GenericParam, Bounds, Params, Param, Result, WherePred, RecordFields, RecordField, TupleFields, TupleField, Variant, Head, Meta, Arms, Arm, Guard, Args, RecordExprField, RecordPatField, UseTree, UseTrees, LetElse, Label, Items, AssocItems, ExternItems, Tokens}
+use Rattle.syntax_make.specs.declared.place.Place.TheVariants.{Stmt, File, Expr, Condition, Ty, Pat, Name, Lifetime, Binder, GenericArgs, GenericArg, GenericParams, GenericParam, Bounds, Params, Param, ClosureParam, Result, WherePred, RecordFields, RecordField, TupleFields, TupleField, Variant, Variants, Head, Meta, Arms, Arm, Guard, Args, RecordExprField, RecordExprFields, RecordPatField, RecordPatFields, UseTree, UseTrees, Rename, LetElse, Label, Items, AssocItems, ExternItems, Tokens}
 use Rattle.syntax_make.specs.declared.place.TheConstants.{PLACES}
 
 -- what stands before the text
@@ -24,6 +24,7 @@ before_of GenericParam = codes "fn f<"
 before_of Bounds = codes "fn f<T: "
 before_of Params = codes "fn f"
 before_of Param = codes "fn f("
+before_of ClosureParam = codes "const C: () = |"
 before_of Result = codes "fn f() "
 before_of WherePred = codes "fn f() where "
 before_of RecordFields = codes "struct S "
@@ -31,6 +32,7 @@ before_of RecordField = codes "struct S { "
 before_of TupleFields = codes "struct S"
 before_of TupleField = codes "struct S("
 before_of Variant = codes "enum E { "
+before_of Variants = codes "enum E "
 before_of Head = []
 before_of Meta = codes "#["
 before_of Arms = codes "fn f() { match x "
@@ -38,9 +40,12 @@ before_of Arm = codes "fn f() { match x { "
 before_of Guard = codes "fn f() { match x { _ "
 before_of Args = codes "const C: () = f"
 before_of RecordExprField = codes "const C: () = S { "
+before_of RecordExprFields = codes "const C: () = S "
 before_of RecordPatField = codes "fn f() { match x { S { "
+before_of RecordPatFields = codes "fn f() { match x { S "
 before_of UseTree = codes "use "
 before_of UseTrees = codes "use a::"
+before_of Rename = codes "use a "
 before_of LetElse = codes "fn f() { let x = y "
 before_of Label = codes "fn f() { "
 before_of Items = codes "mod m "
@@ -66,6 +71,7 @@ after_of GenericParam = codes ">() {}"
 after_of Bounds = codes ">() {}"
 after_of Params = codes " {}"
 after_of Param = codes ") {}"
+after_of ClosureParam = codes "| ();"
 after_of Result = codes " {}"
 after_of WherePred = codes " {}"
 after_of RecordFields = []
@@ -73,6 +79,7 @@ after_of RecordField = codes " }"
 after_of TupleFields = codes ";"
 after_of TupleField = codes ");"
 after_of Variant = codes " }"
+after_of Variants = []
 after_of Head = codes "\nfn f() {}"
 after_of Meta = codes "]\nfn f() {}"
 after_of Arms = codes " }"
@@ -80,15 +87,25 @@ after_of Arm = codes " } }"
 after_of Guard = codes " => {} } }"
 after_of Args = codes ";"
 after_of RecordExprField = codes " };"
+after_of RecordExprFields = codes ";"
 after_of RecordPatField = codes " } => {} } }"
+after_of RecordPatFields = codes " => {} } }"
 after_of UseTree = codes ";"
 after_of UseTrees = codes ";"
+after_of Rename = codes ";"
 after_of LetElse = codes "; }"
 after_of Label = codes " loop {} }"
 after_of Items = []
 after_of AssocItems = []
 after_of ExternItems = []
 after_of Tokens = codes ";"
+
+-- where a text is tried that is misread there: an expression as a condition, which may have a
+-- `let`, and a parameter as one of a closure
+abbrev pub second_of : Place → Option Place
+second_of Expr = Some Condition
+second_of Param = Some ClosureParam
+second_of _ = None
 
 -- the text in its surroundings
 abbrev pub in_place : Place → List ℕ → List ℕ

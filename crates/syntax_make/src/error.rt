@@ -1,4 +1,6 @@
 //! Why no node is made, and why no expression is replaced.
+ghost use Rattle.std.specs.Prelude.{◌≡◌};
+ghost use Rattle.syntax_make.specs.Failures.{is_misread};
 
 use lossless_tree::ReplaceError;
 use ras_front_end::{ParseError, SyntaxError};
@@ -24,6 +26,13 @@ pub enum MakeError {
     /// Out of memory.
     #[error("out of memory")]
     Memory,
+}
+
+/// Whether an error depends on what the text reads as.
+pub(crate) fn is_misread(error: &MakeError) -> bool
+    ensures { result ≡ is_misread error.now }
+{
+    matches!(error, MakeError::Syntax(_) | MakeError::NotOne)
 }
 
 impl From<AllocError> for MakeError {

@@ -2,11 +2,11 @@
 ghost use Rattle.std.specs.Prelude.{◌≡◌, ◌++◌, ◌∷◌, [], IfOk, IfErr, OnOk, IsErr, map, true};
 ghost use Rattle.tree_model.specs.Cursor.{focus};
 ghost use Rattle.tree_model.specs.Equality.{is_same_tree};
-ghost use Rattle.syntax_make.specs.Forms.{bit_of, bits_of, has_left, has_right, opening, closing, Drafted, drafted, with_text, with_part, with_operand, with_bit, draft_of, is_part, needs_pair, is_part_here, are_parts, nodes_of, IsFormWith, IsRefusedWith, is_misread, IsFormOf, IsNoFormOf};
+ghost use Rattle.syntax_make.specs.Forms.{bit_of, bits_of, has_left, has_right, opening, closing, Drafted, drafted, with_text, with_part, with_operand, with_element, with_children, with_bit, draft_of, is_part, needs_pair, is_part_here, are_parts, nodes_of, IsFormWith, IsRefusedWith, IsFormOf, IsNoFormOf};
 
-use crate::error::MakeError;
+use crate::error::{MakeError, is_misread};
 use crate::from_text::node;
-use lossless_tree::SyntaxNode;
+use lossless_tree::{NodeOrToken, SyntaxElement, SyntaxNode};
 use ras_front_end::{Edition, FrontEnd};
 use ras_node::AstNode;
 use ras_node::support::share;
@@ -20,6 +20,9 @@ pub enum Piece<'a> {
     Text(&'a str),
     /// A node, by its text.
     Part(&'a SyntaxNode),
+    /// The children of a node, by their texts, each child node as a part: for a node that becomes
+    /// another one in its new place, as an arm with a comma behind it.
+    Children(&'a SyntaxNode),
     /// An operand, by its text, in a pair of parentheses where it needs one: the first, or the only
     /// one.
     Left(&'a SyntaxNode),
@@ -109,6 +112,25 @@ impl Draft {
         self.push_text(closing(pair))
     }
 
+    fn push_element(&mut self, element: &SyntaxElement) -> Result<(), AllocError>
+        ensures { OnOk result (drafted self.new ≡ with_element (drafted self.old) element.now) }
+    {
+        match element {
+            NodeOrToken::Node(node) => self.push_part(false, node),
+            NodeOrToken::Token(token) => self.push_text(token.text()),
+        }
+    }
+
+    fn push_children(&mut self, node: &SyntaxNode) -> Result<(), AllocError>
+        ensures { OnOk result
+            (drafted self.new ≡ with_children (drafted self.old) node.now) }
+    {
+        for element in node.children_with_tokens() {
+            self.push_element(&element)?;
+        }
+        Ok(())
+    }
+
     fn push(&mut self, pairs: Pairs, piece: Piece) -> Result<(), AllocError>
         ensures { OnOk result
             (drafted self.new ≡ with_bit pairs (drafted self.old) (bit_of piece.entry)) }
@@ -116,6 +138,7 @@ impl Draft {
         match piece {
             Piece::Text(text) => self.push_text(text),
             Piece::Part(node) => self.push_part(false, node),
+            Piece::Children(node) => self.push_children(node),
             Piece::Left(node) => self.push_operand(pairs.has_left(), node),
             Piece::Right(node) => self.push_operand(pairs.has_right(), node),
         }
@@ -228,19 +251,12 @@ pub fn form_with<N: AstNode + Drop, F: FrontEnd>(
     }
 }
 
-// Whether an error depends on what the text reads as.
-fn is_misread(error: &MakeError) -> bool
-    ensures { result ≡ is_misread error.now }
-{
-    matches!(error, MakeError::Syntax(_) | MakeError::NotOne)
-}
-
 /// The node of the pieces' texts, with a pair of parentheses round an operand only where it needs
 /// one, or where the text without it reads otherwise: the first of `Neither`, `Left`, `Right` and
 /// `Both` with which [`form_with`] makes the node.
 ///
 /// `[Left(a), Text(" * "), Right(b)]` with `x + y` and `z` is `(x + y) * z`. Takes at most the time
-/// of four parses of the text, and mostly that of one.
+/// of four calls of [`node`], and mostly that of one.
 ///
 /// # Errors
 ///

@@ -2,9 +2,9 @@
 ghost use Rattle.std.specs.Prelude.{◌≡◌, IfOk, IfErr, option_map, string_bytes, length};
 ghost use Rattle.ras_parsing.specs.AllErrors.{all_errors};
 ghost use Rattle.syntax_make.specs.Places.{before_of, in_place, place_of};
-ghost use Rattle.syntax_make.specs.Made.{IsFirstOf, IsCleanOf, IsUnclean, is_at, node_there, IsMadeIn, IsRefusedIn, IsMadeAt, IsRefusedAt};
+ghost use Rattle.syntax_make.specs.Made.{IsFirstOf, IsCleanOf, IsUnclean, is_at, node_there, IsMadeIn, IsRefusedIn, IsMadeFrom, IsRefusedFrom, IsMadeAt, IsRefusedAt};
 
-use crate::error::MakeError;
+use crate::error::{MakeError, is_misread};
 use crate::place::{Place, place_of};
 use lossless_tree::SyntaxNode;
 use ras_front_end::{Edition, Entry, FrontEnd, SyntaxError};
@@ -100,17 +100,53 @@ pub fn node_in<N: AstNode + Drop, F: FrontEnd>(
     }
 }
 
+// The node of a text at a place, or at the second one if it is misread there.
+#[tactic(auto, using(crate::proofs::SecondLemmas::made_second, crate::proofs::SecondLemmas::none_second, crate::proofs::SecondLemmas::misread_both, crate::proofs::SecondLemmas::stopped_second))]
+fn node_from<N: AstNode + Drop, F: FrontEnd>(
+    alloc: Global,
+    front: &F,
+    place: Place,
+    text: &str,
+    edition: Edition,
+) -> Result<N, MakeError>
+    ensures made { IfOk result (λ n.
+        IsMadeFrom (F.answers front.now) edition place N.casts text.now (N.node n)) }
+    ensures refused { IfErr result
+        (IsRefusedFrom (F.answers front.now) edition place N.casts text.now) }
+{
+    let first = match node_in(alloc, front, place, text, edition) {
+        Ok(made) => return Ok(made),
+        Err(error) => error,
+    };
+    if !is_misread(&first) {
+        return Err(first);
+    }
+    let Some(second) = place.second() else {
+        return Err(first);
+    };
+    match node_in(alloc, front, second, text, edition) {
+        Ok(made) => Ok(made),
+        Err(error) => if is_misread(&error) {
+            Err(first)
+        } else {
+            Err(error)
+        },
+    }
+}
+
 /// The node of a text, as the root of a tree of its own: that of [`node_in`] at the place of an `N`
-/// by [`place_of`].
+/// by [`place_of`], or at the second of that place if it reads otherwise there: an expression with
+/// a `let` is made as a condition, and a parameter without a type as one of a closure.
 ///
-/// `node::<ast::Expr, _>(alloc, &Rust, "a + b", edition)` is a `BIN_EXPR`;
-/// `node::<ast::Type, _>(.., "a + b", ..)` is refused with `Syntax`,
+/// `node::<ast::Expr, _>(alloc, &Rust, "a + b", edition)` is a `BIN_EXPR`, and so is
+/// `"let Some(a) = b && c"`; `node::<ast::Type, _>(.., "a + b", ..)` is refused with `Syntax`,
 /// `node::<ast::CallExpr, _>(.., "a + b", ..)` and `node::<ast::Expr, _>(.., "a ", ..)` with
-/// `NotOne`.
+/// `NotOne`. Takes the time of two parses where the text is misread at the first place.
 ///
 /// # Errors
 ///
-/// `NoPlace` if an `N` is not made from a text; otherwise those of [`node_in`].
+/// `NoPlace` if an `N` is not made from a text; otherwise those of [`node_in`]. If the text is
+/// misread at both places, the error is that of the first.
 pub fn node<N: AstNode + Drop, F: FrontEnd>(
     alloc: Global,
     front: &F,
@@ -124,6 +160,6 @@ pub fn node<N: AstNode + Drop, F: FrontEnd>(
 {
     match place_of::<N>() {
         None => Err(MakeError::NoPlace),
-        Some(place) => node_in(alloc, front, place, text, edition),
+        Some(place) => node_from(alloc, front, place, text, edition),
     }
 }

@@ -1,8 +1,9 @@
 //! The surroundings in which a text is parsed.
 ghost use Rattle.std.specs.Prelude.{◌≡◌};
-ghost use Rattle.syntax_make.specs.Places.{before_of, after_of, place_in, place_of};
+ghost use Rattle.syntax_make.specs.Places.{before_of, after_of, second_of, place_in, place_of};
 
 use ras_node::AstNode;
+use rust_kinds::kinds;
 use syntax_kind::SyntaxKind;
 
 /// Where a text stands when it is parsed: which texts are before and after it in a file.
@@ -41,6 +42,9 @@ pub enum Place {
     Params,
     /// One parameter. Its text stands in `fn f(…) {}`.
     Param,
+    /// One parameter of a closure, which may be without a type. Its text stands in
+    /// `const C: () = |…| ();`.
+    ClosureParam,
     /// What stands between a function's parameters and its body. Its text stands in `fn f() … {}`.
     Result,
     /// One predicate of a `where`. Its text stands in `fn f() where … {}`.
@@ -55,6 +59,8 @@ pub enum Place {
     TupleField,
     /// A variant of an enum. Its text stands in `enum E { … }`.
     Variant,
+    /// The variants of an enum with their braces. Its text stands in `enum E …`.
+    Variants,
     /// What stands before a function's `fn`: an attribute, a visibility, an ABI. Its text stands in
     /// `… fn f() {}`.
     Head,
@@ -70,12 +76,20 @@ pub enum Place {
     Args,
     /// One field of a record expression. Its text stands in `const C: () = S { … };`.
     RecordExprField,
+    /// The fields of a record expression with their braces. Its text stands in
+    /// `const C: () = S …;`.
+    RecordExprFields,
     /// One field of a record pattern. Its text stands in `fn f() { match x { S { … } => {} } }`.
     RecordPatField,
+    /// The fields of a record pattern with their braces. Its text stands in
+    /// `fn f() { match x { S … => {} } }`.
+    RecordPatFields,
     /// What a `use` names. Its text stands in `use …;`.
     UseTree,
     /// What a `use` names in braces. Its text stands in `use a::…;`.
     UseTrees,
+    /// The name that a `use` gives. Its text stands in `use a …;`.
+    Rename,
     /// The `else` of a `let`. Its text stands in `fn f() { let x = y …; }`.
     LetElse,
     /// The label of a loop. Its text stands in `fn f() { … loop {} }`.
@@ -112,6 +126,7 @@ impl Place {
             Place::Bounds => "fn f<T: ",
             Place::Params => "fn f",
             Place::Param => "fn f(",
+            Place::ClosureParam => "const C: () = |",
             Place::Result => "fn f() ",
             Place::WherePred => "fn f() where ",
             Place::RecordFields => "struct S ",
@@ -119,6 +134,7 @@ impl Place {
             Place::TupleFields => "struct S",
             Place::TupleField => "struct S(",
             Place::Variant => "enum E { ",
+            Place::Variants => "enum E ",
             Place::Head => "",
             Place::Meta => "#[",
             Place::Arms => "fn f() { match x ",
@@ -126,9 +142,12 @@ impl Place {
             Place::Guard => "fn f() { match x { _ ",
             Place::Args => "const C: () = f",
             Place::RecordExprField => "const C: () = S { ",
+            Place::RecordExprFields => "const C: () = S ",
             Place::RecordPatField => "fn f() { match x { S { ",
+            Place::RecordPatFields => "fn f() { match x { S ",
             Place::UseTree => "use ",
             Place::UseTrees => "use a::",
+            Place::Rename => "use a ",
             Place::LetElse => "fn f() { let x = y ",
             Place::Label => "fn f() { ",
             Place::Items => "mod m ",
@@ -159,6 +178,7 @@ impl Place {
             Place::Bounds => ">() {}",
             Place::Params => " {}",
             Place::Param => ") {}",
+            Place::ClosureParam => "| ();",
             Place::Result => " {}",
             Place::WherePred => " {}",
             Place::RecordFields => "",
@@ -166,6 +186,7 @@ impl Place {
             Place::TupleFields => ";",
             Place::TupleField => ");",
             Place::Variant => " }",
+            Place::Variants => "",
             Place::Head => "\nfn f() {}",
             Place::Meta => "]\nfn f() {}",
             Place::Arms => " }",
@@ -173,9 +194,12 @@ impl Place {
             Place::Guard => " => {} } }",
             Place::Args => ";",
             Place::RecordExprField => " };",
+            Place::RecordExprFields => ";",
             Place::RecordPatField => " } => {} } }",
+            Place::RecordPatFields => " => {} } }",
             Place::UseTree => ";",
             Place::UseTrees => ";",
+            Place::Rename => ";",
             Place::LetElse => "; }",
             Place::Label => " loop {} }",
             Place::Items => "",
@@ -184,11 +208,24 @@ impl Place {
             Place::Tokens => ";",
         }
     }
+
+    /// Where a text is tried that reads otherwise in this place: that of an expression as a
+    /// condition, which may have a `let`, and that of a parameter as one of a closure, which may be
+    /// without a type. `None` for the other places.
+    pub fn second(self) -> Option<Place>
+        ensures { result ≡ second_of self }
+    {
+        match self {
+            Place::Expr => Some(Place::Condition),
+            Place::Param => Some(Place::ClosureParam),
+            _ => None,
+        }
+    }
 }
 
 /// The kinds of nodes that can be made from a text, and where the text of each stands. For a view
 /// of several kinds the first row with one of them counts.
-pub static PLACES: [(SyntaxKind, Place); 140] = [
+pub static PLACES: [(SyntaxKind, Place); 145] = [
     (SyntaxKind::EXPR_STMT, Place::Stmt),
     (SyntaxKind::LET_STMT, Place::Stmt),
     (SyntaxKind::SOURCE_FILE, Place::File),
@@ -284,6 +321,7 @@ pub static PLACES: [(SyntaxKind, Place); 140] = [
     (SyntaxKind::LIFETIME, Place::Lifetime),
     (SyntaxKind::FOR_BINDER, Place::Binder),
     (SyntaxKind::GENERIC_ARG_LIST, Place::GenericArgs),
+    (kinds::PARENTHESIZED_ARG_LIST, Place::GenericArgs),
     (SyntaxKind::TYPE_ARG, Place::GenericArg),
     (SyntaxKind::ASSOC_TYPE_ARG, Place::GenericArg),
     (SyntaxKind::LIFETIME_ARG, Place::GenericArg),
@@ -305,6 +343,7 @@ pub static PLACES: [(SyntaxKind, Place); 140] = [
     (SyntaxKind::TUPLE_FIELD_LIST, Place::TupleFields),
     (SyntaxKind::TUPLE_FIELD, Place::TupleField),
     (SyntaxKind::VARIANT, Place::Variant),
+    (kinds::VARIANT_LIST, Place::Variants),
     (SyntaxKind::ATTR, Place::Head),
     (SyntaxKind::DOC_COMMENT, Place::Head),
     (SyntaxKind::VISIBILITY, Place::Head),
@@ -320,9 +359,12 @@ pub static PLACES: [(SyntaxKind, Place); 140] = [
     (SyntaxKind::MATCH_GUARD, Place::Guard),
     (SyntaxKind::ARG_LIST, Place::Args),
     (SyntaxKind::RECORD_EXPR_FIELD, Place::RecordExprField),
+    (kinds::RECORD_EXPR_FIELD_LIST, Place::RecordExprFields),
     (SyntaxKind::RECORD_PAT_FIELD, Place::RecordPatField),
+    (kinds::RECORD_PAT_FIELD_LIST, Place::RecordPatFields),
     (SyntaxKind::USE_TREE, Place::UseTree),
     (SyntaxKind::USE_TREE_LIST, Place::UseTrees),
+    (kinds::RENAME, Place::Rename),
     (SyntaxKind::LET_ELSE, Place::LetElse),
     (SyntaxKind::LABEL, Place::Label),
     (SyntaxKind::ITEM_LIST, Place::Items),

@@ -8,28 +8,6 @@ pub fn rest_pat() -> Result<ast::RestPat, MakeError> {
     node("..")
 }
 
-/// A literal as a pattern: `1`, `-1`, `"a"`.
-pub fn literal_pat(text: &str) -> Result<ast::LiteralPat, MakeError> {
-    node(text)
-}
-
-/// A slice: `[p, q]`.
-pub fn slice_pat(pats: &[ast::Pat]) -> Result<ast::SlicePat, MakeError> {
-    let mut form = Pieces::default();
-    form.text("[");
-    form.separated(pats, ", ");
-    form.text("]");
-    form.made()
-}
-
-/// One of several patterns: `p | q`, and with a sign in front `| p | q`. Of one pattern without that sign it is refused.
-pub fn or_pat(pats: &[ast::Pat], leading_pipe: bool) -> Result<ast::OrPat, MakeError> {
-    let mut form = Pieces::default();
-    form.text(if leading_pipe { "| " } else { "" });
-    form.separated(pats, " | ");
-    form.made()
-}
-
 /// A pattern in a box: `box p`.
 pub fn box_pat(pat: &ast::Pat) -> Result<ast::BoxPat, MakeError> {
     form(&[Piece::Text("box "), Piece::Part(pat.syntax())])
@@ -54,11 +32,6 @@ pub fn range_pat(start: Option<&ast::Pat>, end: Option<&ast::Pat>) -> Result<ast
     form.made()
 }
 
-/// The condition of an arm: `if a`.
-pub fn match_guard(condition: &ast::Expr) -> Result<ast::MatchGuard, MakeError> {
-    form(&[Piece::Text("if "), Piece::Part(condition.syntax())])
-}
-
 /// A block of one expression: `{ a }`.
 pub fn tail_only_block_expr(tail_expr: &ast::Expr) -> Result<ast::BlockExpr, MakeError> {
     form(&[Piece::Text("{ "), Piece::Part(tail_expr.syntax()), Piece::Text(" }")])
@@ -72,11 +45,6 @@ pub fn async_move_block_expr(stmts: &[ast::Stmt], tail_expr: Option<&ast::Expr>)
     form.optional("\n    ", tail_expr);
     form.text("\n}");
     form.made()
-}
-
-/// A `loop`: `loop { a }`.
-pub fn expr_loop(body: &ast::BlockExpr) -> Result<ast::LoopExpr, MakeError> {
-    form(&[Piece::Text("loop "), Piece::Part(body.syntax())])
 }
 
 /// A tuple of types, of one type too: `()`, `(A,)`, `(A, B)`.
@@ -111,26 +79,6 @@ pub fn path_segment_super() -> Result<ast::PathSegment, MakeError> {
 /// The segment `crate`.
 pub fn path_segment_crate() -> Result<ast::PathSegment, MakeError> {
     super::node_in(super::Place::UseTree, "crate")
-}
-
-/// A path of segments: `a::b`, and if it is absolute `::a::b`.
-pub fn path_from_segments(segments: &[ast::PathSegment], is_abs: bool) -> Result<ast::Path, MakeError> {
-    let mut form = Pieces::default();
-    let mut segments = segments;
-    // The sign in front is a token of the first segment, which is so no longer the one that was given.
-    if let (true, Some((first, others))) = (is_abs, segments.split_first()) {
-        form.text("::");
-        form.text(first.syntax().text());
-        form.text(if others.is_empty() { "" } else { "::" });
-        segments = others;
-    }
-    form.separated(segments, "::");
-    form.made()
-}
-
-/// A path behind another: `a::b` and `c::d` are `a::b::c::d`.
-pub fn path_concat(first: &ast::Path, second: &ast::Path) -> Result<ast::Path, MakeError> {
-    node(&[first.syntax().text(), "::", second.syntax().text()].concat())
 }
 
 /// Paths behind each other.

@@ -3,11 +3,6 @@ use super::{MakeError, Piece, Pieces, form, node};
 use crate::Either;
 use crate::ast::{self, AstNode};
 
-/// A lifetime: `'a`, given with its quote.
-pub fn lifetime(text: &str) -> Result<ast::Lifetime, MakeError> {
-    node(text)
-}
-
 /// A bound: `A`.
 pub fn type_bound(bound: &ast::Type) -> Result<ast::TypeBound, MakeError> {
     form(&[Piece::Part(bound.syntax())])

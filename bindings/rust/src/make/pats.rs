@@ -1,5 +1,5 @@
 //! Patterns. Written by bindings/make from crates/rust_make/src.
-use super::{MakeError, Piece, Pieces, form};
+use super::{MakeError, Piece, Pieces, form, pat_piece, text_if};
 use crate::ast::{self, AstNode};
 
 /// The pattern `_`.
@@ -17,16 +17,17 @@ pub fn ident_pat_mut(name: &ast::Name) -> Result<ast::IdentPat, MakeError> {
     form(&[Piece::Text("mut "), Piece::Part(name.syntax())])
 }
 
-/// A path of more than a name as a pattern: `A::B`.
+/// A path as a pattern: `A::B`. One name is the pattern of a name: `None` is an `IDENT_PAT`.
 pub fn path_pat(path: &ast::Path) -> Result<ast::Pat, MakeError> {
-    form(&[Piece::Part(path.syntax())])
+    form(&[pat_piece(path.syntax())])
 }
 
-/// A tuple of patterns, not of one: `(p, q)`.
+/// A tuple of patterns: `(p, q)`; of one, `(p,)`.
 pub fn tuple_pat(pats: &[ast::Pat]) -> Result<ast::TuplePat, MakeError> {
     let mut form = Pieces::default();
     form.text("(");
     form.separated(pats, ", ");
+    form.text(text_if(pats.len() == 1, ","));
     form.text(")");
     form.made()
 }
@@ -48,5 +49,28 @@ pub fn record_pat(path: &ast::Path, fields: &[ast::RecordPatField]) -> Result<as
     form.text(" { ");
     form.separated(fields, ", ");
     form.text(" }");
+    form.made()
+}
+
+/// A literal as a pattern: `1`, `-1`, `"a"`.
+pub fn literal_pat(text: &str) -> Result<ast::LiteralPat, MakeError> {
+    form(&[Piece::Text(text)])
+}
+
+/// Alternatives, with a sign before the first one if `leading_pipe`: `p | q`. Of fewer than two
+/// it is refused, but for one with the sign.
+pub fn or_pat(pats: &[ast::Pat], leading_pipe: bool) -> Result<ast::OrPat, MakeError> {
+    let mut form = Pieces::default();
+    form.text(text_if(leading_pipe, "| "));
+    form.separated(pats, " | ");
+    form.made()
+}
+
+/// A slice of patterns: `[p, q]`.
+pub fn slice_pat(pats: &[ast::Pat]) -> Result<ast::SlicePat, MakeError> {
+    let mut form = Pieces::default();
+    form.text("[");
+    form.separated(pats, ", ");
+    form.text("]");
     form.made()
 }
