@@ -1,4 +1,4 @@
-"""Proves programs and all crates below them by the toolchain's compiler alone, and keeps what it proved.
+"""Proves programs, or the static library, and all crates below them by the toolchain's compiler alone, and keeps what it proved.
 
 The compiler builds a crate only once it is proved. `rt ci`, by which `./check` proves, does more for each crate: it looks for contracts that no
 call can meet, tries planted bugs, proves tests, and builds each program by two compilers. Whoever wants the program needs none of that.
@@ -6,15 +6,11 @@ call can meet, tries planted bugs, proves tests, and builds each program by two 
 import fcntl
 import hashlib
 import os
-import re
 import shutil
 import tempfile
 import time
 
 import repository
-
-# What a verdict says of a crate that is proved but may end the process, wait, or say less than it seems to.
-LESS = re.compile(r" (may-abort|may-wait|may-serve|main|hides|bugs|foreign)=(?!0\b)")
 
 
 class Proofs:
@@ -44,19 +40,25 @@ class Proofs:
         stamp = os.path.join(self.kept(name), "stamp")
         return os.path.isfile(stamp) and open(stamp, encoding="utf-8").read() == self.digest(name)
 
+    def made(self, name):
+        """What the compiler makes of a crate: its library, the object of a program, or a static library."""
+        file = f"lib{name}.a" if name in self.crates.static else f"{name}.{'o' if self.crates.is_program(name) else 'rlib'}"
+        return os.path.join(self.kept(name), file)
+
     def prove(self, name):
-        """Proves a crate over those below it, and keeps its library, or the object of a program. Gives the exit status and what was said."""
-        place, is_program = self.kept(name), self.crates.is_program(name)
-        shutil.rmtree(place, ignore_errors=True)
-        os.makedirs(place)
-        to = os.path.join(place, f"{name}.{'o' if is_program else 'rlib'}")
-        words = repository.build_words(self.crates, name, self.kept)
-        words += ["--toolchain", os.path.join(self.kit, "toolchain"), "--backend", "llvm"] if is_program else ["--statements"]
-        status, text, _ = repository.call([*words, "-o", to], self.crates.folder(name), text=True)
-        verdict = re.search(r"(?m)^logic=proved .*", text)
-        if status == 0 and (not verdict or LESS.search(verdict[0])):
-            status = 1
+        """Proves a crate over those below it, and keeps what is made of it. Gives the exit status and what was said."""
+        shutil.rmtree(self.kept(name), ignore_errors=True)
+        os.makedirs(self.kept(name))
+        if name in self.crates.static:
+            status, text = repository.build_static(self.crates, name, self.kept, self.made(name))
+        else:
+            words = repository.build_words(self.crates, name, self.kept)
+            compiled = ["--toolchain", os.path.join(self.kit, "toolchain"), "--backend", "llvm"]
+            words += compiled if self.crates.is_program(name) else ["--statements"]
+            status, text, _ = repository.call([*words, "-o", self.made(name)], self.crates.folder(name), text=True)
+            status = status or int(not repository.is_verdict(text))
         if status == 0:
+            place = self.kept(name)
             with open(os.path.join(place, "stamp"), "w", encoding="utf-8") as file:
                 file.write(self.digest(name))
         return status, text
@@ -85,13 +87,20 @@ class Proofs:
         """Links a program that is proved, as the file `to`. Gives the exit status and what was said."""
         archives = [os.path.join(self.kit, "c", it) for it in ("libos_c.a", "liblibc_c.a")]
         words = [os.path.join(self.kit, "bin", "rattle-link"), "--target", "x86_64-unknown-linux-gnu", "--toolchain", os.path.join(self.kit, "toolchain")]
-        status, text, _ = repository.call([*words, "-o", to, os.path.join(self.kept(name), f"{name}.o"), *archives], repository.TOP, text=True)
+        status, text, _ = repository.call([*words, "-o", to, self.made(name), *archives], repository.TOP, text=True)
         return status, text
+
+    def put(self, name, to):
+        """Puts a program, or a static library, that is proved at `to`. Gives the exit status and what was said."""
+        if name in self.crates.static:
+            shutil.copyfile(self.made(name), to)
+            return 0, ""
+        return self.link(name, to)
 
 
 def build(names, say):
-    """Proves and builds these programs, and puts each into its crate's folder out/: their paths, or the name of a crate that is not proved
-    and what was said of it."""
+    """Proves and builds these programs and static libraries, and puts each into its crate's folder out/: their paths, or the name of a crate
+    that is not proved and what was said of it."""
     crates = repository.Crates()
     inside = os.path.join(repository.TOP, ".git")
     # A second run waits for the first, and takes what it proved.
@@ -106,9 +115,9 @@ def build(names, say):
             return None, refused
         paths = []
         for name in names:
-            path = os.path.join(repository.TOP, "crates", name, "out", name)
+            path = os.path.join(repository.TOP, "crates", name, "out", f"lib{name}.a" if name in crates.static else name)
             # A program that runs while it is rebuilt keeps its file.
-            status, text = proofs.link(name, path + ".new")
+            status, text = proofs.put(name, path + ".new")
             if status:
                 return None, (name, text)
             os.replace(path + ".new", path)
