@@ -1,11 +1,16 @@
 //! Pages of HTML.
+ghost use Rattle.std.specs.Prelude.{◌≡◌};
+ghost use Rattle.rust_report.specs.declared.escapes.Medium.TheVariants.{Html};
 
 use rust_report::{Escaped, Medium};
 use std::io;
 use std::io::Write;
 
 /// A text in a page.
-pub fn in_html(text: &str) -> Escaped<'_> {
+pub fn in_html(text: &str) -> Escaped<'_>
+    ensures text { result.text.now ≡ text.now }
+    ensures medium { result.medium ≡ Html }
+{
     Escaped {
         text,
         medium: Medium::Html,

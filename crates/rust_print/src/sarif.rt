@@ -1,5 +1,7 @@
 //! SARIF 2.1.0, the form of results that code scanners exchange: one object with a run, and in it a
 //! result for each error, pair or match.
+ghost use Rattle.std.specs.Prelude.{◌≡◌};
+ghost use Rattle.rust_print.specs.Results.{rule_id, level_of};
 
 use crate::json;
 use rust_report::Spot;
@@ -20,7 +22,9 @@ pub enum Rule {
 
 impl Rule {
     /// The `ruleId` of its results; of a match whose rule has no name.
-    pub fn id(self) -> &'static str {
+    pub fn id(self) -> &'static str
+        ensures { result.now ≡ rule_id self }
+    {
         match self {
             Rule::Syntax => "syntax-error",
             Rule::Parentheses => "needless-parentheses",
@@ -29,7 +33,9 @@ impl Rule {
     }
 
     /// The level of its results; of a match that no rule gives a severity.
-    pub fn level(self) -> &'static str {
+    pub fn level(self) -> &'static str
+        ensures { result.now ≡ level_of self }
+    {
         match self {
             Rule::Syntax => "error",
             Rule::Parentheses => "note",

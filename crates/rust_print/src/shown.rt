@@ -1,4 +1,7 @@
 //! Texts of files on a terminal.
+ghost use Rattle.std.specs.Prelude.{ℕ, ◌≡◌, ◌<◌, ◌≤◌, nat_lt, length, take};
+ghost use Rattle.std.specs.Str.{IsCharBoundary};
+ghost use Rattle.rust_report.specs.declared.escapes.Medium.TheVariants.{Name};
 
 use crate::sarif::Uri;
 use crate::source::Source;
@@ -9,7 +12,10 @@ use std::io::Write;
 
 /// A text that stays in its line: the name of a file, or a message, which may have characters of
 /// the file.
-pub fn name(text: &str) -> Escaped<'_> {
+pub fn name(text: &str) -> Escaped<'_>
+    ensures text { result.text.now ≡ text.now }
+    ensures medium { result.medium ≡ Name }
+{
     Escaped {
         text,
         medium: Medium::Name,
@@ -49,12 +55,15 @@ pub fn write_short<W: Write>(out: &mut W, text: &str) -> io::Result<()> {
 
 /// The front of a text, and whether it is not all of it. Many nodes of a tree may have long texts,
 /// so none is written as a whole.
-pub fn cut(text: &str) -> (&str, bool) {
+pub fn cut(text: &str) -> (&str, bool)
+    ensures front { result.0.now ≡ take (length result.0.now) text.now }
+    ensures short { length result.0.now ≤ 240 }
+    ensures longest { (i : ℕ) → length result.0.now < i → i ≤ 240 → ¬ (IsCharBoundary text.now i) }
+    ensures cut { result.1 ≡ nat_lt (length result.0.now) (length text.now) }
+{
     let end = text.floor_char_boundary(WIDEST);
-    match text.get(..end) {
-        Some(front) => (front, end < text.len()),
-        None => ("", true),
-    }
+    let (front, _rest) = text.split_at(end);
+    (front, end < text.len())
 }
 
 /// How many levels are indented. Each level costs two blanks for each of its lines, so of 100,000

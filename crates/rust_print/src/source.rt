@@ -1,5 +1,6 @@
 //! Texts, their parses and their lines.
-ghost use Rattle.std.specs.Prelude.{IfOk};
+ghost use Rattle.std.specs.Prelude.{◌≡◌, ◌<◌, ◌≤◌, ◌↔◌, ◌^◌, length, IfOk, IfErr, OnOk};
+ghost use Rattle.ras_front_end.specs.declared.parse_error.ParseError.TheVariants.{TooLong};
 ghost use Rattle.rust_print.specs.Readings.{IsReadAs};
 
 use line_index::LineIndex;
@@ -42,7 +43,11 @@ pub fn parsed(alloc: Global, text: &str, reading: Reading) -> Result<Parse<Synta
 }
 
 /// The lines of a text.
-pub fn lines(alloc: Global, text: &str) -> Result<LineIndex<'_>, ParseError> {
+pub fn lines(alloc: Global, text: &str) -> Result<LineIndex<'_>, ParseError>
+    ensures text { IfOk result (λ lines. lines ≡ text.now) }
+    ensures accepted { OnOk result (length text.now < 2 ^ 32) }
+    ensures refused { IfErr result (λ e. (e ≡ TooLong) ↔ (2 ^ 32 ≤ length text.now)) }
+{
     if TextSize::of(text).is_none() {
         return Err(ParseError::TooLong);
     }
@@ -50,7 +55,11 @@ pub fn lines(alloc: Global, text: &str) -> Result<LineIndex<'_>, ParseError> {
 }
 
 /// The lines and columns of a text.
-pub fn spots(alloc: Global, text: &str) -> Result<Spots<'_>, ParseError> {
+pub fn spots(alloc: Global, text: &str) -> Result<Spots<'_>, ParseError>
+    ensures text { IfOk result (λ spots. spots ≡ text.now) }
+    ensures accepted { OnOk result (length text.now < 2 ^ 32) }
+    ensures refused { IfErr result (λ e. (e ≡ TooLong) ↔ (2 ^ 32 ≤ length text.now)) }
+{
     Ok(Spots::new(lines(alloc, text)?))
 }
 
