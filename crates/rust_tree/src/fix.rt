@@ -157,12 +157,12 @@ pub fn tidy(rt: &HostRuntime, name: &str) -> Result<(), Failure> {
     }
 }
 
-// Writes the text to a new file, gives it the permissions of the old file, and renames it to the
-// old file's name.
+// Writes the text to a new file with the permissions of the old file, and renames it to the old
+// file's name. The file is empty until it has the permissions: others may not read the old one.
 fn write_new(rt: &HostRuntime, new: &str, old: &str, text: &str) -> io::Result<()> {
     let mut file = File::create_new(rt, new)?;
-    file.write_all(text.as_bytes())?;
     file.set_permissions(fs::metadata(rt, old)?.permissions())?;
+    file.write_all(text.as_bytes())?;
     file.sync_all()?;
     fs::rename(rt, new, old)
 }

@@ -125,8 +125,16 @@ const MATCHES: Noun = Noun {
     many: "matches",
 };
 
-// Replaces the text of a file, if anything was done in it. The new text of standard input is always
-// written to the output.
+// Whether a file still has this text.
+fn is_unchanged(rt: &HostRuntime, source: Source<'_>) -> bool {
+    match text_of(rt, source.name) {
+        Ok(text) => text.as_str() == source.text,
+        Err(_) => false,
+    }
+}
+
+// Replaces the text of a file, if anything was done in it and nobody changed it meanwhile. The new
+// text of standard input is always written to the output.
 fn fix_file<W: Write>(
     rt: &HostRuntime,
     out: &mut W,
@@ -140,6 +148,9 @@ fn fix_file<W: Write>(
     }
     fix::tidy(rt, source.name)?;
     if done.count > 0 {
+        if !is_unchanged(rt, source) {
+            return Err(Failure::Kept("it was changed meanwhile"));
+        }
         fix::fix(rt, out, source.name, source.folder, new, done)?;
     }
     Ok(())
@@ -213,14 +224,6 @@ fn write_unchanged<W: Write>(
     }
 }
 
-// Whether a file still has this text.
-fn is_unchanged(rt: &HostRuntime, source: Source<'_>) -> bool {
-    match text_of(rt, source.name) {
-        Ok(text) => text.as_str() == source.text,
-        Err(_) => false,
-    }
-}
-
 // Asks for each replacement of a text, and replaces those that are taken in its file.
 fn ask_and_fix<W: Write>(
     rt: &HostRuntime,
@@ -237,9 +240,6 @@ fn ask_and_fix<W: Write>(
         return Ok(());
     }
     let taken = rules::with_taken(rt.alloc(), source, done, marks.as_slice(), options)?;
-    if !is_unchanged(rt, source) {
-        return Err(Failure::Kept("it was changed meanwhile"));
-    }
     let told = Done {
         count,
         noun: MATCHES,
