@@ -125,8 +125,11 @@ const MATCHES: Noun = Noun {
     many: "matches",
 };
 
-// Whether a file still has this text.
+// Whether a file still has this text. A pipe has it no more, and would be waited for.
 fn is_unchanged(rt: &HostRuntime, source: Source<'_>) -> bool {
+    if !fs::metadata(rt, source.name).is_ok_and(|found| found.is_file()) {
+        return false;
+    }
     match text_of(rt, source.name) {
         Ok(text) => text.as_str() == source.text,
         Err(_) => false,
