@@ -277,14 +277,25 @@ fn write_rewritten<W: Write>(
     }
 }
 
-// The rules for a file.
+// The rules for a file, by its path from the folder that the program runs in if it is below that:
+// what a glob leaves out, it leaves out however the file is named.
 fn rules_for<'a>(
     rt: &HostRuntime,
     chosen: &'a mut Chosen,
     set: &'a RuleSet,
     source: Source<'_>,
 ) -> Result<&'a RuleSet, Failure> {
-    let path = path_in(source.name, source.folder);
+    if set.is_for_all() {
+        return Ok(set);
+    }
+    let below = match fix::other_name(rt, source.name) {
+        Ok(below) => below,
+        Err(error) => return Err(Failure::File(error)),
+    };
+    let path = match &below {
+        Some(below) => below.as_str(),
+        None => path_in(source.name, source.folder),
+    };
     match chosen.rules_for(rt.alloc(), set, path) {
         Ok(set) => Ok(set),
         Err(_) => Err(Failure::Text(ParseError::Memory)),
