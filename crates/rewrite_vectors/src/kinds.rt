@@ -106,8 +106,8 @@ fn patterns_that_want_pairs(rt: HostRuntime) -> Result<(), Fail> {
     )
 }
 
-// To rustc `async {} (b)` is a call, `..` and `...` are the last in their lists, and the path of a
-// macro has no arguments; the parser takes all of these.
+// To rustc `async {} (b)` is a call, `..` and `...` are the last in their lists, the path of a macro
+// has no arguments, and a `let` is in no pair; the parser takes all of these.
 #[test]
 fn what_rustc_reads_otherwise(rt: HostRuntime) -> Result<(), Fail> {
     let refused = [
@@ -137,6 +137,14 @@ fn what_rustc_reads_otherwise(rt: HostRuntime) -> Result<(), Fail> {
         ),
         ("A ==>> B::<C>", "fn g() { A!() }"),
         ("A::a ==>> B::<C>::a", "fn g() { A::a!() }"),
+        (
+            "$a && $b ==>> $b && $a",
+            "fn g() { if a && let Some(b) = c && d {} }",
+        ),
+        (
+            "if $c { $$b } ==>> if ($c) { $$b }",
+            "fn g() { if let Some(b) = c {} }",
+        ),
     ];
     for (rule, file) in &refused {
         run(
@@ -171,6 +179,11 @@ fn what_rustc_reads_otherwise(rt: HostRuntime) -> Result<(), Fail> {
                 "A ==>> b::B",
                 "fn g() { A!(); A::f() }",
                 "fn g() { b::B!(); b::B::f() }",
+            ),
+            (
+                "if $c { $$b } ==>> while $c { $$b }",
+                "fn g() { if a && let Some(b) = (c && d) {} }",
+                "fn g() { while a && let Some(b) = (c && d) {} }",
             ),
         ],
     )

@@ -3,10 +3,11 @@
 -- top, behind `&` is no range, and `..` is the last in the braces of a record; in a slice rustc
 -- refuses `1..`. "Expression statements": an `async` block is none of the expressions that end a
 -- statement with their block. "External blocks": `...` is the last parameter. "Macro invocation": a
--- simple path, without arguments.
+-- simple path, without arguments. "`if` expressions": a `let` is an operand of `&&` in a condition,
+-- and in no pair of parentheses.
 use Rattle.std.specs.Prelude.{Bool, false, not, ◌&&◌, ◌||◌, if◌then◌else◌, List, [], ◌∷◌, Option, Some, None, is_some, reverse}
 use Rattle.std.specs.List.{find, filter, list_any}
-use Rattle.syntax_kind.specs.declared.syntax_kind.TheConstants.SyntaxKind.{OR_PAT, RANGE_PAT, REF_PAT, BOX_PAT, SLICE_PAT, IDENT_PAT, REST_PAT, LET_STMT, EXPR_STMT, MATCH_ARM, BLOCK_EXPR, PARAM, GENERIC_ARG_LIST, PATH_SEGMENT, PATH, MACRO_CALL, ASYNC_KW, GEN_KW, DOT2, DOT3, SEMICOLON, COMMA, R_CURLY}
+use Rattle.syntax_kind.specs.declared.syntax_kind.TheConstants.SyntaxKind.{OR_PAT, RANGE_PAT, REF_PAT, BOX_PAT, SLICE_PAT, IDENT_PAT, REST_PAT, LET_STMT, LET_EXPR, BIN_EXPR, PAREN_EXPR, EXPR_STMT, MATCH_ARM, BLOCK_EXPR, PARAM, GENERIC_ARG_LIST, PATH_SEGMENT, PATH, MACRO_CALL, ASYNC_KW, GEN_KW, DOT2, DOT3, SEMICOLON, COMMA, R_CURLY}
 use Rattle.tree_model.specs.Cursor.{Cursor, at_node, at_token, parent_of, ancestors_of, descendants_of, following_of}
 use Rattle.ras_node.specs.Nodes.{is_of_kind, token_child}
 use Rattle.rust_kinds.specs.declared.kinds.TheConstants.{RECORD_PAT_FIELD_LIST}
@@ -93,12 +94,23 @@ abbrev pub is_macro_path : List Cursor → Bool
 is_macro_path [] = false
 is_macro_path (c ∷ cs) = if is_of_path c then is_macro_path cs else is_of_kind MACRO_CALL c
 
+-- ---- a `let` in a pair
+
+abbrev pub is_of_condition : Cursor → Bool
+is_of_condition c = is_of_kind LET_EXPR c || is_of_kind BIN_EXPR c
+
+-- the first of some nodes that is no part of a condition is a pair
+abbrev pub is_pair_path : List Cursor → Bool
+is_pair_path [] = false
+is_pair_path (c ∷ cs) = if is_of_condition c then is_pair_path cs else is_of_kind PAREN_EXPR c
+
 -- ---- any of these
 
 abbrev pub is_exposed : Cursor → Bool
 is_exposed c =
     is_exposed_pattern c || (is_joined c || (is_rest_inside c || (is_variadic_inside c
-    || (is_of_kind GENERIC_ARG_LIST c && is_macro_path (ancestors_of c)))))
+    || ((is_of_kind GENERIC_ARG_LIST c && is_macro_path (ancestors_of c))
+    || (is_of_kind LET_EXPR c && is_pair_path (ancestors_of c))))))
 
 -- there is one in a tree
 abbrev pub has_exposed : Cursor → Bool

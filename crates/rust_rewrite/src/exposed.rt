@@ -1,10 +1,11 @@
 //! What rustc refuses or reads otherwise where it stands, and the parser takes all the same: a
 //! pattern without a pair, as `A | B` in `let A | B = x;`; a block that rustc goes on behind, as
-//! `async {} (a)`; and a few things that have to be the last ones.
+//! `async {} (a)`; a `let` in a pair, as `a && (let b = c)`; and a few things that have to be the
+//! last ones.
 ghost use Rattle.std.specs.Prelude.{◌≡◌, is_some};
 ghost use Rattle.tree_model.specs.Cursor.{ancestors_of};
 ghost use Rattle.rust_parens.specs.Rustc.{token_after};
-ghost use Rattle.rust_rewrite.specs.Exposed.{is_dots, is_endless, is_slice, is_in_slice, is_binding, is_prefix, is_exposed_pattern, is_async_block, is_closed_by_block, is_stop, is_joined, is_record, is_brace, is_rest_inside, is_variadic_inside, is_of_path, is_macro_path, is_exposed, has_exposed};
+ghost use Rattle.rust_rewrite.specs.Exposed.{is_dots, is_endless, is_slice, is_in_slice, is_binding, is_prefix, is_exposed_pattern, is_async_block, is_closed_by_block, is_stop, is_joined, is_record, is_brace, is_rest_inside, is_variadic_inside, is_of_path, is_macro_path, is_of_condition, is_pair_path, is_exposed, has_exposed};
 
 use lossless_tree::{NodeOrToken, SyntaxKind, SyntaxNode, SyntaxToken};
 use ras_algo::algo::next_non_trivia_token;
@@ -186,6 +187,26 @@ fn is_in_macro_path(node: &SyntaxNode) -> bool
     false
 }
 
+// Whether a node is a `let`, or an operator as the `&&` around one.
+fn is_of_condition(node: &SyntaxNode) -> bool
+    ensures { result ≡ is_of_condition node.now }
+{
+    is_of_kind(node, SyntaxKind::LET_EXPR) || is_of_kind(node, SyntaxKind::BIN_EXPR)
+}
+
+// Whether a part of a condition is in a pair: `a && (let b = c)`.
+fn is_in_pair(node: &SyntaxNode) -> bool
+    ensures { result ≡ is_pair_path (ancestors_of node.now) }
+{
+    let mut around = node.ancestors();
+    while let Some(node) = around.next() {
+        if !is_of_condition(&node) {
+            return is_of_kind(&node, SyntaxKind::PAREN_EXPR);
+        }
+    }
+    false
+}
+
 fn is_exposed(node: &SyntaxNode) -> bool
     ensures { result ≡ is_exposed node.now }
 {
@@ -194,6 +215,7 @@ fn is_exposed(node: &SyntaxNode) -> bool
         || is_rest_inside(node)
         || is_variadic_inside(node)
         || (is_of_kind(node, SyntaxKind::GENERIC_ARG_LIST) && is_in_macro_path(node))
+        || (is_of_kind(node, SyntaxKind::LET_EXPR) && is_in_pair(node))
 }
 
 /// Whether a tree has something that rustc refuses or reads otherwise where it stands.

@@ -12,6 +12,7 @@ use Rattle.tree_model.specs.Tree.{kind_of}
 use Rattle.tree_model.specs.Cursor.{Cursor, focus, range_start, range_end, at_node, at_token, parent_of, descendants_of}
 use Rattle.tree_model.specs.Edit.{root_of}
 use Rattle.ras_front_end.specs.Parsed.{Parsed}
+use Rattle.ras_parsing.specs.AllErrors.{all_errors}
 use Rattle.rust_front.specs.Front.{rust_front}
 use Rattle.tree_match.specs.declared.rule.Rule.{Rule}
 use Rattle.tree_match.specs.Finds.{Occurrence, occurrence_of, found_in}
@@ -69,12 +70,12 @@ pub record IsFileOf (s : List ℕ) (list : Bounds) (file : List ℕ) : Type 0 wh
 -- arguments are read as the list that their file is, if its parse has no error
 pub record IsList (r : Reading) (file : List ℕ) (p : Parsed) : Type 0 where
   pub is_read : IsReadAs r file p
-  pub no_errors : p.errors ≡ []
+  pub no_errors : all_errors p ≡ []
 
 pub record IsNoList (r : Reading) (file : List ℕ) : Type 0 where
   pub parse : Parsed
   pub is_read : IsReadAs r file parse
-  pub errors : parse.errors ≡ [] → ⊥
+  pub errors : all_errors parse ≡ [] → ⊥
 
 abbrev pub IsListRead : Reading → List ℕ → Option Parsed → Type 0
 IsListRead r file None = IsNoList r file

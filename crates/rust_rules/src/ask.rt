@@ -6,18 +6,21 @@ use crate::within::Found;
 use rust_print::forms::ReportOptions;
 use rust_print::shown::{name, write_place};
 use rust_print::source::{Source, move_to};
-use rust_report::{Spots, short_of};
+use rust_report::{Spots, excerpt_of};
 use rust_search::{RuleSet, lines_by};
 use std::alloc::Global;
 use std::io;
 use std::io::Write;
 use text_edit::Indel;
 
-// Writes lines with a sign before each. Control characters in them are symbols, and of a long line
-// only the front is written.
-fn write_signed<W: Write>(out: &mut W, sign: &str, text: &str) -> io::Result<()> {
+// Writes lines with a sign before each. Control characters in them are symbols. Of a long line only
+// a part is written: of the first the one around an offset, of the others the front.
+fn write_signed<W: Write>(out: &mut W, sign: &str, text: &str, offset: usize) -> io::Result<()> {
+    let mut at = offset;
     for line in text.trim_end_matches('\n').split('\n') {
-        writeln!(out, "{sign}{}", short_of(line.trim_end_matches('\r')))?;
+        let line = line.trim_end_matches('\r');
+        writeln!(out, "{sign}{}", excerpt_of(line, at, line.len()))?;
+        at = 0;
     }
     Ok(())
 }
@@ -42,6 +45,11 @@ pub fn write_question<'a, W: Write>(
     }
     writeln!(out, "{}", name(place.message))?;
     let (old, new) = lines_by(alloc, source.text, indel)?;
-    write_signed(out, "-", old)?;
-    write_signed(out, "+", new.as_str())
+    let before = source
+        .text
+        .get(..indel.deleted().start().raw() as usize)
+        .unwrap_or("");
+    let offset = before.rsplit('\n').next().unwrap_or("").len();
+    write_signed(out, "-", old, offset)?;
+    write_signed(out, "+", new.as_str(), offset)
 }

@@ -100,8 +100,8 @@ pub(crate) fn file_of(alloc: Global, text: &str, range: TextRange) -> Result<Str
     Ok(file)
 }
 
-/// The parse of a file of arguments; `None` if it has an error, so that they are no list of
-/// expressions.
+/// The parse of a file of arguments; `None` if it has an error, a violation as that of `let a = b`
+/// among them, so that they are no list of expressions.
 pub(crate) fn read_list(
     alloc: Global,
     file: &str,
@@ -110,7 +110,7 @@ pub(crate) fn read_list(
     ensures { IfOk result (IsListRead reading file.now) }
 {
     let parse = parsed(alloc, file, reading)?;
-    if parse.stored().is_empty() {
+    if parse.errors(alloc)?.is_empty() {
         Ok(Some(parse))
     } else {
         Ok(None)

@@ -130,7 +130,7 @@ fn reads_as_meant(
 fn read(alloc: Global, text: &str, reading: Reading) -> Result<(usize, Side<'_>), Failure> {
     let parse = parsed(alloc, text, reading)?;
     let steps = steps(alloc, parse.root())?;
-    Ok((parse.stored().len(), Side::new(text, steps)))
+    Ok((parse.errors(alloc)?.len(), Side::new(text, steps)))
 }
 
 // Whether a text has no more errors than the old one, and its tree is as meant.

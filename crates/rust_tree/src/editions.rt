@@ -81,10 +81,22 @@ fn real_path(rt: &HostRuntime, named: &str) -> io::Result<Option<String>> {
     Ok(None)
 }
 
+// Whether a path leads to a pipe or a device, which would be read for ever.
+fn is_endless(rt: &HostRuntime, path: &str) -> bool {
+    fs::metadata(rt, path).is_ok_and(|found| !found.is_file() && !found.is_dir())
+}
+
 // The manifest of a folder, if it has one. One that cannot be read is reported; then the next one
 // above counts.
 fn manifest_in(rt: &HostRuntime, folder: &str) -> io::Result<Option<Value>> {
     let path = path_in(rt.alloc(), folder, "Cargo.toml")?;
+    if is_endless(rt, path.as_str()) {
+        eprintln!(rt;
+            "rust_tree: warning: {}: not read, since it is no file",
+            name(path.as_str())
+        )?;
+        return Ok(None);
+    }
     let text = match fs::read_to_string(rt, path.as_str()) {
         Ok(text) => text,
         Err(error) => {

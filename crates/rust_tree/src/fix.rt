@@ -64,13 +64,19 @@ pub fn path_below<'a>(folder: &str, path: &'a str) -> Option<&'a str> {
     path.strip_prefix(folder)?.strip_prefix("/")
 }
 
-// The name of a file in a patch. If `git apply` and `patch` do not take it, standard error says so.
-fn patch_name(rt: &HostRuntime, path: &str) -> io::Result<Option<String>> {
+/// The name of a file from the folder that the program runs in, if it is another one: of `./a.rs`,
+/// an absolute path, or one with `..`. `None` too if the file is not below that folder.
+pub fn other_name(rt: &HostRuntime, path: &str) -> io::Result<Option<String>> {
     if path == "-" || leads_down(path) {
         return Ok(None);
     }
-    let below = name_below(rt, path)?;
-    if below.is_none() {
+    name_below(rt, path)
+}
+
+// The name of a file in a patch. If `git apply` and `patch` do not take it, standard error says so.
+fn patch_name(rt: &HostRuntime, path: &str) -> io::Result<Option<String>> {
+    let below = other_name(rt, path)?;
+    if below.is_none() && path != "-" && !leads_down(path) {
         eprintln!(rt;
             "rust_tree: {}: `patch` and `git apply` refuse this file unless they run in a folder above it",
             shown::name(path)
@@ -157,12 +163,12 @@ pub fn tidy(rt: &HostRuntime, name: &str) -> Result<(), Failure> {
     }
 }
 
-// Writes the text to a new file, gives it the permissions of the old file, and renames it to the
-// old file's name.
+// Writes the text to a new file with the permissions of the old file, and renames it to the old
+// file's name. The file is empty until it has the permissions: others may not read the old one.
 fn write_new(rt: &HostRuntime, new: &str, old: &str, text: &str) -> io::Result<()> {
     let mut file = File::create_new(rt, new)?;
-    file.write_all(text.as_bytes())?;
     file.set_permissions(fs::metadata(rt, old)?.permissions())?;
+    file.write_all(text.as_bytes())?;
     file.sync_all()?;
     fs::rename(rt, new, old)
 }

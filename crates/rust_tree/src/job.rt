@@ -125,8 +125,19 @@ const MATCHES: Noun = Noun {
     many: "matches",
 };
 
-// Replaces the text of a file, if anything was done in it. The new text of standard input is always
-// written to the output.
+// Whether a file still has this text. A pipe has it no more, and would be waited for.
+fn is_unchanged(rt: &HostRuntime, source: Source<'_>) -> bool {
+    if !fs::metadata(rt, source.name).is_ok_and(|found| found.is_file()) {
+        return false;
+    }
+    match text_of(rt, source.name) {
+        Ok(text) => text.as_str() == source.text,
+        Err(_) => false,
+    }
+}
+
+// Replaces the text of a file, if anything was done in it and nobody changed it meanwhile. The new
+// text of standard input is always written to the output.
 fn fix_file<W: Write>(
     rt: &HostRuntime,
     out: &mut W,
@@ -140,6 +151,9 @@ fn fix_file<W: Write>(
     }
     fix::tidy(rt, source.name)?;
     if done.count > 0 {
+        if !is_unchanged(rt, source) {
+            return Err(Failure::Kept("it was changed meanwhile"));
+        }
         fix::fix(rt, out, source.name, source.folder, new, done)?;
     }
     Ok(())
@@ -213,14 +227,6 @@ fn write_unchanged<W: Write>(
     }
 }
 
-// Whether a file still has this text.
-fn is_unchanged(rt: &HostRuntime, source: Source<'_>) -> bool {
-    match text_of(rt, source.name) {
-        Ok(text) => text.as_str() == source.text,
-        Err(_) => false,
-    }
-}
-
 // Asks for each replacement of a text, and replaces those that are taken in its file.
 fn ask_and_fix<W: Write>(
     rt: &HostRuntime,
@@ -237,9 +243,6 @@ fn ask_and_fix<W: Write>(
         return Ok(());
     }
     let taken = rules::with_taken(rt.alloc(), source, done, marks.as_slice(), options)?;
-    if !is_unchanged(rt, source) {
-        return Err(Failure::Kept("it was changed meanwhile"));
-    }
     let told = Done {
         count,
         noun: MATCHES,
@@ -274,14 +277,25 @@ fn write_rewritten<W: Write>(
     }
 }
 
-// The rules for a file.
+// The rules for a file, by its path from the folder that the program runs in if it is below that:
+// what a glob leaves out, it leaves out however the file is named.
 fn rules_for<'a>(
     rt: &HostRuntime,
     chosen: &'a mut Chosen,
     set: &'a RuleSet,
     source: Source<'_>,
 ) -> Result<&'a RuleSet, Failure> {
-    let path = path_in(source.name, source.folder);
+    if set.is_for_all() {
+        return Ok(set);
+    }
+    let below = match fix::other_name(rt, source.name) {
+        Ok(below) => below,
+        Err(error) => return Err(Failure::File(error)),
+    };
+    let path = match &below {
+        Some(below) => below.as_str(),
+        None => path_in(source.name, source.folder),
+    };
     match chosen.rules_for(rt.alloc(), set, path) {
         Ok(set) => Ok(set),
         Err(_) => Err(Failure::Text(ParseError::Memory)),
