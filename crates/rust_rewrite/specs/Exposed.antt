@@ -4,13 +4,15 @@
 -- refuses `1..`. "Expression statements": an `async` block is none of the expressions that end a
 -- statement with their block. "External blocks": `...` is the last parameter. "Macro invocation": a
 -- simple path, without arguments. "`if` expressions": a `let` is an operand of `&&` in a condition,
--- and in no pair of parentheses.
-use Rattle.std.specs.Prelude.{Bool, false, not, ◌&&◌, ◌||◌, if◌then◌else◌, List, [], ◌∷◌, Option, Some, None, is_some, reverse}
+-- from the edition 2024 on, and in no pair of parentheses.
+use Rattle.std.specs.Prelude.{Bool, true, false, not, ◌&&◌, ◌||◌, if◌then◌else◌, List, [], ◌∷◌, Option, Some, None, is_some, reverse}
 use Rattle.std.specs.List.{find, filter, list_any}
 use Rattle.syntax_kind.specs.declared.syntax_kind.TheConstants.SyntaxKind.{OR_PAT, RANGE_PAT, REF_PAT, BOX_PAT, SLICE_PAT, IDENT_PAT, REST_PAT, LET_STMT, LET_EXPR, BIN_EXPR, PAREN_EXPR, EXPR_STMT, MATCH_ARM, BLOCK_EXPR, PARAM, GENERIC_ARG_LIST, PATH_SEGMENT, PATH, MACRO_CALL, ASYNC_KW, GEN_KW, DOT2, DOT3, SEMICOLON, COMMA, R_CURLY}
 use Rattle.tree_model.specs.Cursor.{Cursor, at_node, at_token, parent_of, ancestors_of, descendants_of, following_of}
 use Rattle.ras_node.specs.Nodes.{is_of_kind, token_child}
 use Rattle.rust_kinds.specs.declared.kinds.TheConstants.{RECORD_PAT_FIELD_LIST}
+use Rattle.ras_front_end.specs.declared.edition.Edition.{Edition}
+use Rattle.ras_front_end.specs.declared.edition.Edition.TheVariants.{Edition2024}
 use Rattle.rust_parens.specs.Rustc.{token_after}
 
 -- a token that there may be is `..`
@@ -116,6 +118,26 @@ is_exposed c =
 abbrev pub has_exposed : Cursor → Bool
 has_exposed root = list_any is_exposed (filter at_node (descendants_of root))
 
--- a new tree has one, and the old one has none
-abbrev pub exposes : Cursor → Cursor → Bool
-exposes old new = has_exposed new && not (has_exposed old)
+-- ---- a `let` beside a `&&`
+
+abbrev pub is_operation : Option Cursor → Bool
+is_operation None = false
+is_operation (Some c) = is_of_kind BIN_EXPR c
+
+-- `a && let b = c`
+abbrev pub is_chained : Cursor → Bool
+is_chained c = is_of_kind LET_EXPR c && is_operation (parent_of c)
+
+abbrev pub has_chain : Cursor → Bool
+has_chain root = list_any is_chained (filter at_node (descendants_of root))
+
+-- the editions that have it
+abbrev pub takes_chains : Edition → Bool
+takes_chains Edition2024 = true
+takes_chains _ = false
+
+-- a new tree has one of these in an edition that refuses it, and the old one has none
+abbrev pub exposes : Edition → Cursor → Cursor → Bool
+exposes edition old new =
+    (has_exposed new && not (has_exposed old))
+    || (not (takes_chains edition) && (has_chain new && not (has_chain old)))

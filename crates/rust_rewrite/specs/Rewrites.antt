@@ -45,7 +45,7 @@ pub record ReadsAs (front : Front) (edition : Edition) (rules : List Rule) (old 
   pub parse : Parsed
   pub is_parse : IsParseOf s (front.parsed SourceFile edition s) parse
   pub errors : length (all_errors parse) ≤ length (all_errors old)
-  pub patterns : exposes (root_of old.tree) (root_of parse.tree) ≡ false
+  pub patterns : exposes edition (root_of old.tree) (root_of parse.tree) ≡ false
   pub reads : AllRead rules (inside_of (root_of old.tree)) (inside_of (root_of parse.tree))
 
 -- the text is the old one with the outermost matches replaced, and nothing else, and reads as it is

@@ -9,7 +9,7 @@ ghost use Rattle.tree_match.specs.Finds.{occurrence_of, found_in};
 ghost use Rattle.rust_rewrite.specs.Exposed.{exposes};
 ghost use Rattle.rust_rewrite.specs.Rewrites.{ranges_of, outermost, ReadsAs, IsRewrite, WithoutNeedless, is_comment, comment_starts, has_comment, loses_value, loses_from, loses_by, loses_any, loses_comment, IsCommentLost, IsRefused};
 
-use crate::exposed::has_exposed;
+use crate::exposed::{has_chain, has_exposed, takes_chains};
 use crate::plain::need_none;
 use crate::refusal::{Failure, RewriteError};
 use crate::render::{Pairs, Rendered, Source, render};
@@ -277,10 +277,11 @@ fn are_ranges(edit: &TextEdit, ranges: &[TextRange]) -> bool
 }
 
 // Whether a new tree has what rustc refuses or reads otherwise, and the old one has none of it.
-fn exposes(old: &SyntaxNode, new: &SyntaxNode) -> bool
-    ensures { result ≡ exposes old.now new.now }
+fn exposes(edition: Edition, old: &SyntaxNode, new: &SyntaxNode) -> bool
+    ensures { result ≡ exposes edition old.now new.now }
 {
-    has_exposed(new) && !has_exposed(old)
+    (has_exposed(new) && !has_exposed(old))
+        || (!takes_chains(edition) && has_chain(new) && !has_chain(old))
 }
 
 // The parse of a text, if that reads as the old tree with the matches replaced, with no more
@@ -300,7 +301,7 @@ fn read_meant<F: FrontEnd>(
     if new.errors(alloc)?.len() > old.errors(alloc)?.len() {
         return Ok(None);
     }
-    if exposes(old.root(), new.root()) {
+    if exposes(edition, old.root(), new.root()) {
         return Ok(None);
     }
     if reads_as(alloc, rules, old.root(), new.root())? {

@@ -5,10 +5,11 @@
 ghost use Rattle.std.specs.Prelude.{◌≡◌, is_some};
 ghost use Rattle.tree_model.specs.Cursor.{ancestors_of};
 ghost use Rattle.rust_parens.specs.Rustc.{token_after};
-ghost use Rattle.rust_rewrite.specs.Exposed.{is_dots, is_endless, is_slice, is_in_slice, is_binding, is_prefix, is_exposed_pattern, is_async_block, is_closed_by_block, is_stop, is_joined, is_record, is_brace, is_rest_inside, is_variadic_inside, is_of_path, is_macro_path, is_of_condition, is_pair_path, is_exposed, has_exposed};
+ghost use Rattle.rust_rewrite.specs.Exposed.{is_dots, is_endless, is_slice, is_in_slice, is_binding, is_prefix, is_exposed_pattern, is_async_block, is_closed_by_block, is_stop, is_joined, is_record, is_brace, is_rest_inside, is_variadic_inside, is_of_path, is_macro_path, is_of_condition, is_pair_path, is_operation, is_chained, takes_chains, has_chain, is_exposed, has_exposed};
 
 use lossless_tree::{NodeOrToken, SyntaxKind, SyntaxNode, SyntaxToken};
 use ras_algo::algo::next_non_trivia_token;
+use ras_front_end::Edition;
 use ras_node::support::{is_of_kind, is_token_of_kind, share, token};
 use rust_kinds::kinds::RECORD_PAT_FIELD_LIST;
 
@@ -202,6 +203,41 @@ fn is_in_pair(node: &SyntaxNode) -> bool
     while let Some(node) = around.next() {
         if !is_of_condition(&node) {
             return is_of_kind(&node, SyntaxKind::PAREN_EXPR);
+        }
+    }
+    false
+}
+
+fn is_operation(node: Option<SyntaxNode>) -> bool
+    ensures { result ≡ is_operation node }
+{
+    match node {
+        None => false,
+        Some(node) => is_of_kind(&node, SyntaxKind::BIN_EXPR),
+    }
+}
+
+// Whether a node is a `let` beside a `&&`.
+fn is_chained(node: &SyntaxNode) -> bool
+    ensures { result ≡ is_chained node.now }
+{
+    is_of_kind(node, SyntaxKind::LET_EXPR) && is_operation(node.parent())
+}
+
+/// Whether an edition has conditions as `a && let b = c`.
+pub(crate) fn takes_chains(edition: Edition) -> bool
+    ensures { result ≡ takes_chains edition }
+{
+    matches!(edition, Edition::Edition2024)
+}
+
+/// Whether a tree has a condition as `a && let b = c`.
+pub(crate) fn has_chain(root: &SyntaxNode) -> bool
+    ensures { result ≡ has_chain root.now }
+{
+    for node in root.descendants() {
+        if is_chained(&node) {
+            return true;
         }
     }
     false
