@@ -1,5 +1,6 @@
 //! Sizes and ranges: each call once, and what they print.
 use lossless_tree::{TextRange, TextSize};
+use std::cmp::Ordering;
 use std::test::Fail;
 
 #[test]
@@ -10,6 +11,15 @@ fn a_size_counts_bytes(rt: HostRuntime) -> Result<(), Fail> {
     let text = format!(in rt.alloc(); "{size:?}")?;
     assert_eq!(rt; text.as_str(), "6");
     Ok(())
+}
+
+#[test]
+fn sizes_are_added(rt: HostRuntime) {
+    let (three, seven) = (TextSize::new(3), TextSize::new(7));
+    assert_eq!(rt; three.checked_add(TextSize::new(4)), Some(seven));
+    assert_eq!(rt; seven.checked_sub(three), Some(TextSize::new(4)));
+    assert_eq!(rt; TextSize::new(u32::MAX).checked_add(TextSize::new(1)), None);
+    assert_eq!(rt; three.checked_sub(seven), None);
 }
 
 #[test]
@@ -46,4 +56,34 @@ fn ranges_move(rt: HostRuntime) {
     assert_eq!(rt; range.checked_add(TextSize::new(u32::MAX - 13)), None);
     let longest = TextRange::up_to(TextSize::new(u32::MAX));
     assert_eq!(rt; longest.checked_add(TextSize::new(1)), None);
+}
+
+#[test]
+fn ranges_contain_offsets(rt: HostRuntime) {
+    let range = TextRange::new(TextSize::new(3), TextSize::new(5));
+    assert!(rt; range.contains(TextSize::new(3)));
+    assert!(rt; !range.contains(TextSize::new(5)));
+    assert!(rt; range.contains_inclusive(TextSize::new(5)));
+    assert!(rt; !range.contains_inclusive(TextSize::new(6)));
+}
+
+#[test]
+fn ranges_meet(rt: HostRuntime) {
+    let early = TextRange::new(TextSize::new(1), TextSize::new(5));
+    let late = TextRange::new(TextSize::new(3), TextSize::new(9));
+    let both = TextRange::new(TextSize::new(3), TextSize::new(5));
+    assert_eq!(rt; early.intersect(late), Some(both));
+    assert_eq!(rt; early.intersect(TextRange::empty(TextSize::new(6))), None);
+    let all = TextRange::new(TextSize::new(1), TextSize::new(9));
+    assert_eq!(rt; early.cover(late), all);
+    assert_eq!(rt; early.cover_offset(TextSize::new(9)), all);
+    assert_eq!(rt; early.ordering(late), Ordering::Equal);
+    assert_eq!(rt;
+        TextRange::up_to(TextSize::new(3)).ordering(late),
+        Ordering::Less
+    );
+    assert_eq!(rt;
+        late.ordering(TextRange::up_to(TextSize::new(3))),
+        Ordering::Greater
+    );
 }

@@ -1,5 +1,5 @@
 //! Offsets and lengths in a text, in bytes.
-ghost use Rattle.std.specs.Prelude.{◌≡◌, ◌<◌, ◌^◌, ℕ, Some, length, decimal};
+ghost use Rattle.std.specs.Prelude.{◌≡◌, ◌+◌, ◌-◌, ◌≤◌, ◌<◌, ◌^◌, ℕ, Some, length, decimal};
 ghost use Rattle.std.specs.Option.{SomeIff};
 
 use std::fmt;
@@ -42,6 +42,27 @@ impl TextSize {
         ensures { result ≡ self }
     {
         self.raw
+    }
+
+    /// The two sizes together, or `None` if that does not fit in 32 bits.
+    ///
+    /// So it is the offset that is `other` bytes after this one: 7 for 3 and 4.
+    pub fn checked_add(self, other: TextSize) -> Option<TextSize>
+        ensures { SomeIff result (self + other < 2 ^ 32) (self + other) }
+    {
+        let raw = self.raw.checked_add(other.raw)?;
+        Some(TextSize { raw })
+    }
+
+    /// This size without `other`, or `None` if `other` is the greater one.
+    ///
+    /// So it is the number of bytes from the offset `other` to this one: 4 for 7 and 3, and 0 for
+    /// equal offsets.
+    pub fn checked_sub(self, other: TextSize) -> Option<TextSize>
+        ensures { SomeIff result (other ≤ self) (self - other) }
+    {
+        let raw = self.raw.checked_sub(other.raw)?;
+        Some(TextSize { raw })
     }
 }
 
