@@ -72,6 +72,10 @@ fn levels_are_those_of_the_line(rt: HostRuntime) -> Result<(), Fail> {
     assert_eq!(rt; IndentLevel::new(254) + 3, IndentLevel::new(255));
     assert!(rt; IndentLevel::zero().is_zero());
     assert!(rt; !IndentLevel::single().is_zero());
+    let two = IndentLevel::from(2);
+    assert_eq!(rt; two, IndentLevel::new(2));
+    let text = format!(in alloc; "{two}x{}", IndentLevel::zero())?;
+    assert_eq!(rt; text.as_str(), "        x");
     Ok(())
 }
 

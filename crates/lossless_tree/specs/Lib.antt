@@ -28,6 +28,7 @@ pub mod Trees
 pub mod SiblingRows
 pub mod SyntaxText
 pub mod WalkEvent
+pub mod Skip
 pub mod Dump
 pub mod ElementCode
 pub mod PointerEquality

@@ -1,3 +1,4 @@
 pub mod LevelLemmas
 pub mod ShiftLemmas
 pub mod BlankLemmas
+pub mod BlankTexts

@@ -1,7 +1,7 @@
 -- The level of a line: how many steps of 4 characters its white space has.
 -- (Upstream: rust-analyzer's `ast::edit::IndentLevel`.)
-use Rattle.std.specs.Prelude.{ℕ, suc, ◌/◌, ◌==◌, Bool, if◌then◌else◌, List, [], ◌∷◌, Option, None, Some, nat_lt}
-use Rattle.std.specs.List.{list_any, find}
+use Rattle.std.specs.Prelude.{ℕ, suc, ◌/◌, ◌==◌, Bool, if◌then◌else◌, List, [], ◌∷◌, Option, None, Some, nat_lt, codes}
+use Rattle.std.specs.List.{list_any, find, repeat}
 use Rattle.std.specs.Str.{chars}
 use Rattle.syntax_kind.specs.declared.syntax_kind.SyntaxKind.{SyntaxKind}
 use Rattle.syntax_kind.specs.Kinds.{is_same_kind}
@@ -16,6 +16,10 @@ use Rattle.tree_model.specs.NearestToken.{tokens_beyond}
 -- there are no levels past 255
 abbrev pub capped : ℕ → ℕ
 capped n = if nat_lt n 255 then n else 255
+
+-- 4 blanks for each level
+abbrev pub blanks : ℕ → List ℕ
+blanks levels = repeat levels (codes "    ")
 
 -- the character `\n`
 abbrev pub is_newline : ℕ → Bool

@@ -1,7 +1,7 @@
 -- A tree with more or fewer blanks behind the newlines of its white space.
 -- (Upstream: rust-analyzer's `AstNodeEdit::indent` and `dedent`.)
 use Rattle.std.specs.Prelude.{◌≤◌, ◌<◌, ◌^◌, ◌*◌, ◌-◌, ℕ, ◌==◌, ◌&&◌, Bool, if◌then◌else◌, List, [], ◌∷◌, ◌++◌, length, nat_lt, codes, encode_utf8_all, ⊤}
-use Rattle.std.specs.List.{list_any, repeat}
+use Rattle.std.specs.List.{list_any}
 use Rattle.std.specs.Str.{chars}
 use Rattle.syntax_kind.specs.declared.syntax_kind.SyntaxKind.{SyntaxKind}
 use Rattle.syntax_kind.specs.Kinds.{is_same_kind}
@@ -12,11 +12,7 @@ use Rattle.tree_model.specs.declared.error.FinishError.{FinishError}
 use Rattle.tree_model.specs.declared.error.FinishError.TheVariants.{TooLong, OverClosed, Unclosed, Empty, ManyRoots, TokenRoot, ErrorPastText, Memory}
 use Rattle.syntax_indent.specs.declared.shift.Shift.{Shift}
 use Rattle.syntax_indent.specs.declared.shift.Shift.TheVariants.{More, Fewer}
-use Rattle.syntax_indent.specs.Level.{is_newline}
-
--- 4 blanks for each level
-abbrev pub blanks : ℕ → List ℕ
-blanks levels = repeat levels (codes "    ")
+use Rattle.syntax_indent.specs.Level.{is_newline, blanks}
 
 -- the character of one blank
 abbrev pub is_blank : ℕ → Bool

@@ -1,11 +1,12 @@
 //! The level of a line.
-ghost use Rattle.std.specs.Prelude.{◌≡◌, ◌+◌, ◌==◌, option_map};
+ghost use Rattle.std.specs.Prelude.{◌≡◌, ◌+◌, ◌==◌, Some, option_map};
 ghost use Rattle.std.specs.Str.{chars};
 ghost use Rattle.std.specs.List.{list_any};
 ghost use Rattle.tree_model.specs.Cursor.{focus};
-ghost use Rattle.syntax_indent.specs.Level.{is_newline, column, space_level, level_by, line_level, level_at, level_in, level_of, capped};
+ghost use Rattle.syntax_indent.specs.Level.{is_newline, column, space_level, level_by, line_level, level_at, level_in, level_of, capped, blanks};
 
 use lossless_tree::{NodeOrToken, SyntaxElement, SyntaxNode, SyntaxToken};
+use std::fmt;
 use std::ops::Add;
 use syntax_kind::SyntaxKind;
 
@@ -107,6 +108,27 @@ impl Add<u8> for IndentLevel {
     /// That many levels more, and 255 if there would be more than that.
     fn add(self, more: u8) -> IndentLevel {
         IndentLevel::new(self.number.saturating_add(more))
+    }
+}
+
+impl From<u8> for IndentLevel {
+    ghost from_gives = { λ number level. level.number ≡ number };
+
+    /// The level with this number.
+    fn from(number: u8) -> IndentLevel {
+        IndentLevel::new(number)
+    }
+}
+
+/// Its blanks, 4 for each level: what stands before the first token of a line of this level.
+impl fmt::Display for IndentLevel {
+    ghost output = { λ level. Some (blanks level.number) };
+
+    fn fmt<W: fmt::Write>(&self, f: &mut fmt::Formatter<W>) -> fmt::Result {
+        for _level in 0..self.number {
+            f.write_str("    ")?;
+        }
+        Ok(())
     }
 }
 

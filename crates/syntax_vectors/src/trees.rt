@@ -83,6 +83,29 @@ fn a_walk_enters_and_leaves(rt: HostRuntime) -> Result<(), Fail> {
 }
 
 #[test]
+fn a_walk_passes_over_what_is_inside(rt: HostRuntime) -> Result<(), Fail> {
+    let root = sample(&rt)?;
+    let mut seen = String::new(rt.alloc());
+    let mut walk = root.preorder_with_tokens();
+    for _ in 0..3 {
+        show(&mut seen, walk.next().ok_or("a step")?)?;
+    }
+    walk.skip_subtree();
+    for event in walk {
+        show(&mut seen, event)?;
+    }
+    assert_eq!(rt; seen.as_str(), "([a])");
+    let mut nodes = root.preorder();
+    nodes.next();
+    nodes.skip_subtree();
+    assert!(rt; matches!(nodes.next(), Some(WalkEvent::Leave(_))));
+    assert!(rt; nodes.next().is_none());
+    nodes.skip_subtree();
+    assert!(rt; nodes.next().is_none());
+    Ok(())
+}
+
+#[test]
 fn a_root_stands_alone(rt: HostRuntime) -> Result<(), Fail> {
     let root = sample(&rt)?;
     assert!(rt; root.parent().is_none());

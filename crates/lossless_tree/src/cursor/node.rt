@@ -400,7 +400,7 @@ impl SyntaxNode {
     pub fn preorder(&self) -> Preorder
         ensures { result ≡ filter moves_at_node (walk_of self.now) }
     {
-        Preorder::new(self.preorder_with_tokens())
+        Preorder::new(PreorderWithTokens::new(self.table.share(), self.row))
     }
 
     /// The nodes of this subtree in preorder, this node first.

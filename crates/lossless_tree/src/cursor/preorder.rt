@@ -6,6 +6,7 @@ ghost use Rattle.tree_model.specs.Rows.{IsRow};
 ghost use Rattle.tree_model.specs.Cursor.{walk_of, cursor_at, moves_at_node};
 ghost use Rattle.tree_rows.specs.Walks.{walk_left, IsWalk, MovesLevel};
 ghost use Rattle.lossless_tree.specs.WalkEvent.{walk_event, node_event, event_of_node};
+ghost use Rattle.lossless_tree.specs.Skip.{from_leave, IsAtNode};
 
 use super::element::{NodeOrToken, SyntaxElement, element};
 use super::node::SyntaxNode;
@@ -59,6 +60,19 @@ impl PreorderWithTokens {
             innermost: None,
         }
     }
+
+    /// Passes over what is left of the innermost element that is entered and not left: the next
+    /// step leaves it.
+    ///
+    /// So after the step that enters a node its children are passed over, and after the step that
+    /// leaves an element its later siblings. Before the first step, all of the walk is passed over.
+    /// Takes constant time.
+    pub fn skip_subtree(&mut self)
+        ensures { self.new ≡ from_leave 0 self.old }
+    {
+        let row = self.innermost.unwrap_or(self.start);
+        self.next = self.table.row_behind(row);
+    }
 }
 
 impl Iterator for PreorderWithTokens {
@@ -93,19 +107,35 @@ impl Model for Preorder {
     ghost use Rattle.std.specs.List.{filter};
     ghost use Rattle.std.specs.Coded.{coded_list, coded×, coded_bool};
     ghost use Rattle.tree_model.specs.Cursor.{Cursor, cursor_code, moves_at_node};
+    ghost use Rattle.lossless_tree.specs.Skip.{IsAtNode};
 
     ghost Value = { List (Bool × Cursor) };
 
     ghost coded = { coded_list (coded× coded_bool cursor_code) };
 
     ghost view = { λ a. filter moves_at_node a.events };
+
+    ghost invariant = { λ a. IsAtNode a.events };
 }
 
 impl Preorder {
     pub(crate) fn new(events: PreorderWithTokens) -> Self
+        requires { IsAtNode events }
         ensures { result ≡ filter moves_at_node events }
     {
         Preorder { events }
+    }
+
+    /// Passes over what is left of the innermost node that is entered and not left: the next step
+    /// leaves it.
+    ///
+    /// So after the step that enters a node its child nodes are passed over, and after the step
+    /// that leaves a node its later siblings. Before the first step, all of the walk is passed
+    /// over. Takes constant time.
+    pub fn skip_subtree(&mut self)
+        ensures { self.new ≡ from_leave 0 self.old }
+    {
+        self.events.skip_subtree();
     }
 }
 

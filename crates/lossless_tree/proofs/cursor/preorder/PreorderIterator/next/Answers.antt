@@ -5,6 +5,7 @@ use Rattle.tree_model.specs.Cursor.{moves_at_node}
 use Rattle.lossless_tree.specs.WalkEvent.{walk_event, node_event, event_of_node}
 use Rattle.lossless_tree.proofs.WalkEvents.{same_steps, adds_event}
 use Rattle.lossless_tree.proofs.FindLemmas.{found, progress}
+use Rattle.lossless_tree.proofs.NodeWalk.{search_is_at_node}
 use Rattle.lossless_tree.proofs.cursor.preorder.PreorderIterator.next.Goals as goal
 use Rattle.lossless_tree.proofs.cursor.preorder.PreorderIterator.next.Goals.{After-find_map}
 
@@ -16,3 +17,8 @@ returns-clause-steps c = steps c
 
 pub returns-clause-goes : goal.returns-clause-goes
 returns-clause-goes c = progress (map node_event) _ _ _ (steps c)
+
+pub invariant_of-self : goal.invariant_of-self
+invariant_of-self c =
+    search_is_at_node _ (λ f x r h d. (refl, search rules)) _ _ _ _ c.self.invariant c.find_map.ensures.ran
+    (found walk_event same_steps event_of_node (λ l. map node_event (filter moves_at_node l)) refl adds_event _ (λ f x r h d. (refl, search rules)) _ _ _ _ c.find_map.ensures.ran c.find_map.ensures.runs)
