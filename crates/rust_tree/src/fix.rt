@@ -4,12 +4,12 @@ use crate::session::Noun;
 use rust_print::failure::Failure;
 use rust_print::shown;
 use rust_print::source::Source;
-use rust_report::{Quoted, lines_of, noun_for, other_front, same_front};
+use rust_report::{Escaped, Medium, Quoted, lines_of, noun_for, other_front, same_front};
 use rust_search::{write_hunks, write_lines};
 use std::alloc::Global;
 use std::fs::File;
-use std::io::{ErrorKind, Write};
-use std::{fs, io};
+use std::io::{ErrorKind, IsTerminal, Write};
+use std::{fs, io, str};
 use text_edit::TextEdit;
 
 // Writes a hunk for each run of lines that differ, without context lines. Both texts have the same
@@ -105,6 +105,18 @@ fn write_head<W: Write>(rt: &HostRuntime, out: &mut W, name: &str) -> Result<(),
     Ok(write_names(out, path)?)
 }
 
+// Writes a patch as it is, so that `patch` and `git apply` take it; on a terminal, control
+// characters of the file are symbols.
+fn write_patch<W: Write>(rt: &HostRuntime, out: &mut W, patch: &[u8]) -> io::Result<()> {
+    match str::from_utf8(patch) {
+        Ok(text) if rt.stdout().is_terminal() => {
+            let medium = Medium::Terminal;
+            write!(out, "{}", Escaped { text, medium })
+        }
+        _ => out.write_all(patch),
+    }
+}
+
 /// Writes the change of a file as a patch. Both texts have the same number of lines.
 pub fn diff<W: Write>(
     rt: &HostRuntime,
@@ -112,10 +124,12 @@ pub fn diff<W: Write>(
     source: Source<'_>,
     new: &str,
 ) -> Result<(), Failure> {
-    write_head(rt, out, source.name)?;
     let alloc = rt.alloc();
+    let mut patch = Vec::new(alloc);
+    write_head(rt, &mut patch, source.name)?;
     let (old, new) = (lines_of(alloc, source.text)?, lines_of(alloc, new)?);
-    Ok(write_changes(out, old.as_slice(), new.as_slice())?)
+    write_changes(&mut patch, old.as_slice(), new.as_slice())?;
+    Ok(write_patch(rt, out, patch.as_slice())?)
 }
 
 /// Writes an edit of a file as a patch.
@@ -125,8 +139,10 @@ pub fn diff_of<W: Write>(
     source: Source<'_>,
     edit: &TextEdit,
 ) -> Result<(), Failure> {
-    write_head(rt, out, source.name)?;
-    Ok(write_hunks(rt.alloc(), out, source.text, edit)?)
+    let mut patch = Vec::new(rt.alloc());
+    write_head(rt, &mut patch, source.name)?;
+    write_hunks(rt.alloc(), &mut patch, source.text, edit)?;
+    Ok(write_patch(rt, out, patch.as_slice())?)
 }
 
 // The path of the new file beside another, which takes its name once it is written.
