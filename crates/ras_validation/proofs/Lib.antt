@@ -1,2 +1,4 @@
 pub mod Walks
 pub mod Plain
+pub mod RowLemmas
+pub mod NameLemmas

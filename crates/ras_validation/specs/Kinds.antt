@@ -57,3 +57,21 @@ abbrev pub is_path_keyword : SyntaxKind → Bool
 is_path_keyword (Token token.SELF_KW) = true
 is_path_keyword (Token token.CRATE_KW) = true
 is_path_keyword _ = false
+
+-- the segments of paths, the names in them, and the tokens of most names
+abbrev pub is_segment : SyntaxKind → Bool
+is_segment (Node node.PATH_SEGMENT) = true
+is_segment _ = false
+
+abbrev pub is_name_ref : SyntaxKind → Bool
+is_name_ref (Node node.NAME_REF) = true
+is_name_ref _ = false
+
+abbrev pub is_identifier : SyntaxKind → Bool
+is_identifier (Token token.IDENT) = true
+is_identifier _ = false
+
+-- the tokens of names whose digits are looked at
+abbrev pub is_number : SyntaxKind → Bool
+is_number (Token token.INT_NUMBER) = true
+is_number _ = false

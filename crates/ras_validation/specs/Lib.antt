@@ -4,3 +4,4 @@ pub mod Messages
 pub mod Rules
 pub mod Violations
 pub mod Plain
+pub mod Rows

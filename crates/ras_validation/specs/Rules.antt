@@ -13,7 +13,8 @@ use Rattle.tree_model.specs.Cursor.{Cursor, focus, at_node, children_of, first_c
 use Rattle.tree_model.specs.Equality.{is_same_cursor}
 use Rattle.lossless_tree.specs.Element.{element_of, token_part}
 use Rattle.ras_node.specs.Nodes.{kind_at, is_of_kind, token_child}
-use Rattle.ras_validation.specs.Kinds.{takes_inner_attributes, is_member, delimits_type}
+use Rattle.ras_validation.specs.Kinds.{takes_inner_attributes, is_member, delimits_type, is_number}
+use Rattle.ras_node.specs.Searches.{first_token}
 use Rattle.ras_validation.specs.Lookups.{node_child, if_kind, type_child, token_before, token_behind, range_operator, range_end_expr, binary_operator, single_name, segment_keyword, path_around, starts_path, has_trait, is_inner_attribute, has_two_bounds, is_typed_bound}
 
 -- the `mut` after a `const`
@@ -36,6 +37,10 @@ if_not_decimal t = if is_of_kind (Token token.INT_NUMBER) t && list_any (λ b. n
 
 abbrev pub first_token_in : Cursor → Option Cursor
 first_token_in c = option_and_then token_part (option_map element_of (first_child_of c))
+
+-- its name has a number, without which it breaks no rule
+abbrev pub has_number_as_name : Cursor → Bool
+has_number_as_name c = is_some (option_and_then (λ name. first_token is_number (children_of name)) (node_child (Node node.NAME_REF) c))
 
 abbrev pub numeric_name : Cursor → Option Cursor
 numeric_name c = option_and_then if_not_decimal (option_and_then first_token_in (node_child (Node node.NAME_REF) c))

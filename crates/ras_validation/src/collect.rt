@@ -1,9 +1,11 @@
 //! The walk over a tree.
-ghost use Rattle.std.specs.Prelude.{◌≡◌, ◌-◌, ◌<◌, ◌≤◌, ◌++◌, IfOk, OnOk, option_map, flat_map};
+ghost use Rattle.std.specs.Prelude.{◌≡◌, ◌-◌, ◌<◌, ◌≤◌, ◌++◌, IfOk, OnOk, Some, option_map};
 ghost use Rattle.ras_validation.specs.Violations.{named_at, attributes_in, block_attributes, at_visibility, at_segment, violations_at, violations_of, violations_among};
 ghost use Rattle.ras_validation.specs.Rules.{inner_attribute, bare_statements};
-ghost use Rattle.tree_model.specs.Cursor.{range_of, cursors_from};
-ghost use Rattle.tree_model.specs.Tree.{size};
+ghost use Rattle.tree_model.specs.Cursor.{range_of, cursor_at, cursors_from};
+ghost use Rattle.tree_model.specs.Rows.{tree_at};
+ghost use Rattle.tree_model.specs.Tree.{size, IsNode};
+ghost use Rattle.ras_validation.specs.Rows.{violations_from};
 
 use crate::exprs::{misplaced_let, numeric_name, range_without_end};
 use crate::items::{macro_rules_visibility, mutable_const, visibility_in_trait, visibility_path};
@@ -11,9 +13,10 @@ use crate::kinds::{TakesInnerAttributes, WithRules};
 use crate::literals::add_literal_faults;
 use crate::lookups::{has_path_keyword, is_inner_attribute, node_child};
 use crate::paths::{crate_in_path, self_in_path};
+use crate::rows::is_plain_segment;
 use crate::types::{ambiguous_return, ambiguous_target, without_trait};
 use crate::violation::{Violation, ViolationMessage};
-use lossless_tree::{Descendants, SyntaxKind, SyntaxNode};
+use lossless_tree::{SyntaxKind, SyntaxNode};
 use ras_node::KindSet;
 use std::alloc::{AllocError, Global};
 use text_size::TextRange;
@@ -59,6 +62,10 @@ fn bare_statements(block: &SyntaxNode) -> Option<SyntaxNode>
 fn add_attributes_in(found: &mut Vec<Violation>, list: &SyntaxNode) -> Result<(), AllocError>
     ensures { OnOk result (found.new.items ≡ found.old.items ++ attributes_in list.now) }
 {
+    // Most lists have none, and their children need no cursors.
+    if node_child(list, SyntaxKind::ATTR).is_none() {
+        return Ok(());
+    }
     let mut left = list.children();
     while let Some(child) = left.next() {
         add(
@@ -142,13 +149,54 @@ fn add_violations_at(found: &mut Vec<Violation>, node: &SyntaxNode) -> Result<()
     }
 }
 
-// Appends the violations at some nodes. If memory runs out, some of them may be missing.
-fn add_all(found: &mut Vec<Violation>, nodes: Descendants) -> Result<(), AllocError>
-    ensures { OnOk result (found.new.items ≡ found.old.items ++ flat_map violations_at nodes) }
+// The node at a row of a node's tree.
+fn node_at(root: &SyntaxNode, row: usize) -> Option<SyntaxNode>
+    requires is_row { row < size root.now.tree }
+    requires is_node { IsNode (tree_at root.now.tree row) }
+    ensures { result ≡ Some (cursor_at root.now.tree row) }
 {
-    let mut left = nodes;
-    while let Some(next) = left.next_of::<WithRules>() {
-        add_violations_at(found, &next)?;
+    root.element_at_row(row)?.into_node()
+}
+
+// Appends the violations at the node at a row of a node's tree. If memory runs out, some of them
+// may be missing.
+fn add_at_row(found: &mut Vec<Violation>, root: &SyntaxNode, row: usize) -> Result<(), AllocError>
+    requires is_row { row < size root.now.tree }
+    requires is_node { IsNode (tree_at root.now.tree row) }
+    ensures { OnOk result (found.new.items
+        ≡ found.old.items ++ violations_at (cursor_at root.now.tree row)) }
+{
+    match node_at(root, row) {
+        Some(node) => add_violations_at(found, &node),
+        None => Ok(()),
+    }
+}
+
+// Appends the violations at the nodes of a node's tree whose rows have the numbers `from..to`. If
+// memory runs out, some of them may be missing.
+//
+// It reads rows, and makes no cursor of a segment that is a name: three of four nodes with rules
+// are such.
+fn add_all(
+    found: &mut Vec<Violation>,
+    root: &SyntaxNode,
+    from: usize,
+    to: usize,
+) -> Result<(), AllocError>
+    requires { to ≤ size root.now.tree }
+    ensures { OnOk result (found.new.items
+        ≡ found.old.items ++ violations_from root.now.tree from to) }
+{
+    let table = root.table().as_ref();
+    let mut next = from;
+    while let Some(row) = table.first_node_among::<WithRules>(next, to) {
+        if is_plain_segment(table, row) {
+            // The rows of its name are passed, too.
+            next = table.row_behind(row + 1);
+        } else {
+            add_at_row(found, root, row)?;
+            next = table.next_row(row);
+        }
     }
     Ok(())
 }
@@ -175,8 +223,10 @@ pub fn violations(alloc: Global, root: &SyntaxNode) -> Result<Vec<Violation>, Al
 pub fn violations_in(alloc: Global, node: &SyntaxNode) -> Result<Vec<Violation>, AllocError>
     ensures { IfOk result (λ found. found.items ≡ violations_of node.now) }
 {
+    let first = node.row();
+    let end = node.table().as_ref().row_behind(first);
     let mut found = Vec::new(alloc);
-    add_all(&mut found, node.descendants())?;
+    add_all(&mut found, node, first, end)?;
     Ok(found)
 }
 
@@ -197,7 +247,9 @@ pub fn violations_among(
     ensures past { size node.now.tree < to → IfOk result (λ found. found.items
         ≡ violations_among (cursors_from node.now.tree from (size node.now.tree - from))) }
 {
+    let count = node.table().as_ref().len();
+    let end = if to > count { count } else { to };
     let mut found = Vec::new(alloc);
-    add_all(&mut found, node.nodes_among_rows(from, to))?;
+    add_all(&mut found, node, from, end)?;
     Ok(found)
 }

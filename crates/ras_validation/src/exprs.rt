@@ -4,8 +4,9 @@ ghost use Rattle.std.specs.List.{list_any};
 ghost use Rattle.std.specs.Char.{is_ascii_digit};
 ghost use Rattle.tree_model.specs.Cursor.{range_of, ancestors_of};
 ghost use Rattle.ras_node.specs.Nodes.{kind_at};
-ghost use Rattle.ras_validation.specs.Rules.{first_token_in, numeric_name, range_without_end, is_and, let_verdict, in_condition, misplaced_let};
+ghost use Rattle.ras_validation.specs.Rules.{first_token_in, has_number_as_name, numeric_name, range_without_end, is_and, let_verdict, in_condition, misplaced_let};
 
+use crate::kinds::Numbers;
 use crate::lookups::{binary_operator, node_child, range_end, range_operator};
 use lossless_tree::{SyntaxKind, SyntaxNode, SyntaxToken};
 use text_size::TextRange;
@@ -24,15 +25,34 @@ fn first_token_in(node: &SyntaxNode) -> Option<SyntaxToken>
     node.first_child_or_token()?.into_token()
 }
 
-/// The number that names the field of a `FIELD_EXPR` or `RECORD_EXPR_FIELD`, if it is not made of
-/// decimal digits alone.
-pub fn numeric_name(field: &SyntaxNode) -> Option<TextRange>
+// Whether the name of a field has a number.
+fn has_number_as_name(field: &SyntaxNode) -> bool
+    ensures { result ≡ has_number_as_name field.now }
+{
+    field.has_token_in_child::<Numbers>(SyntaxKind::NAME_REF)
+}
+
+// The same as `numeric_name`, by cursors.
+fn number_in_name(field: &SyntaxNode) -> Option<TextRange>
     ensures { result ≡ option_map range_of (numeric_name field.now) }
 {
     let name = node_child(field, SyntaxKind::NAME_REF)?;
     let number = first_token_in(&name)?;
     if number.kind() == SyntaxKind::INT_NUMBER && has_other_than_digits(number.text()) {
         Some(number.text_range())
+    } else {
+        None
+    }
+}
+
+/// The number that names the field of a `FIELD_EXPR` or `RECORD_EXPR_FIELD`, if it is not made of
+/// decimal digits alone.
+pub fn numeric_name(field: &SyntaxNode) -> Option<TextRange>
+    ensures { result ≡ option_map range_of (numeric_name field.now) }
+{
+    // Most fields have an identifier as their name, and need no cursors.
+    if has_number_as_name(field) {
+        number_in_name(field)
     } else {
         None
     }

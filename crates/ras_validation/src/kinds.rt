@@ -1,6 +1,6 @@
 //! Sets of kinds that the rules use.
 ghost use Rattle.std.specs.Prelude.{◌≡◌};
-ghost use Rattle.ras_validation.specs.Kinds.{takes_inner_attributes, is_member, delimits_type, has_rules, is_path_keyword};
+ghost use Rattle.ras_validation.specs.Kinds.{takes_inner_attributes, is_member, delimits_type, has_rules, is_path_keyword, is_segment, is_name_ref, is_identifier, is_number};
 
 use lossless_tree::SyntaxKind;
 use ras_node::KindSet;
@@ -92,5 +92,49 @@ impl KindSet for PathKeywords {
 
     fn has(kind: SyntaxKind) -> bool {
         matches!(kind, SyntaxKind::SELF_KW | SyntaxKind::CRATE_KW)
+    }
+}
+
+/// The segments of paths.
+pub enum Segments {}
+
+impl KindSet for Segments {
+    ghost kinds = { is_segment };
+
+    fn has(kind: SyntaxKind) -> bool {
+        matches!(kind, SyntaxKind::PATH_SEGMENT)
+    }
+}
+
+/// The names in segments and fields.
+pub enum NameRefs {}
+
+impl KindSet for NameRefs {
+    ghost kinds = { is_name_ref };
+
+    fn has(kind: SyntaxKind) -> bool {
+        matches!(kind, SyntaxKind::NAME_REF)
+    }
+}
+
+/// The tokens of most names.
+pub enum Identifiers {}
+
+impl KindSet for Identifiers {
+    ghost kinds = { is_identifier };
+
+    fn has(kind: SyntaxKind) -> bool {
+        matches!(kind, SyntaxKind::IDENT)
+    }
+}
+
+/// The tokens of names whose digits are looked at.
+pub enum Numbers {}
+
+impl KindSet for Numbers {
+    ghost kinds = { is_number };
+
+    fn has(kind: SyntaxKind) -> bool {
+        matches!(kind, SyntaxKind::INT_NUMBER)
     }
 }

@@ -13,6 +13,7 @@ pub mod laws;
 mod literals;
 mod lookups;
 pub mod paths;
+mod rows;
 pub mod types;
 mod violation;
 

@@ -13,12 +13,12 @@ use text_size::TextRange;
 pub fn self_in_path(segment: &SyntaxNode) -> Option<TextRange>
     ensures { result ≡ option_map range_of (self_in_path segment.now) }
 {
-    // Most segments are names: what is around those is not looked at.
-    let keyword = segment_keyword(segment, SyntaxKind::SELF_KW)?;
+    // Most segments that are `self` start their path, and no cursor of the keyword is needed.
     let path = path_around(segment)?;
     if starts_path(segment, &path) || path_around(&path).is_none() {
         return None;
     }
+    let keyword = segment_keyword(segment, SyntaxKind::SELF_KW)?;
     Some(keyword.text_range())
 }
 

@@ -1,10 +1,9 @@
-use Rattle.std.proofs.Common.{◌≡◌, ◌++◌, length}
-use Rattle.std.specs.Prelude.{flat_map}
-use Rattle.ras_validation.specs.Violations.{violations_at}
+use Rattle.std.proofs.Common.{◌≡◌, ◌++◌, ◌-◌}
+use Rattle.ras_validation.specs.Rows.{violations_from}
 use Rattle.ras_validation.proofs.collect.add_all.Given as goal
 
-abbrev pub invariant-loop-next : goal.invariant-loop-next
-invariant-loop-next l = record { same : l.found.items ++ flat_map violations_at l.left ≡ l.fn.found.items ++ flat_map violations_at l.fn.nodes }
+abbrev pub invariant-loop-row : goal.invariant-loop-row
+invariant-loop-row l = record { same : l.found.items ++ violations_from l.fn.root.tree l.next l.to ≡ l.fn.found.items ++ violations_from l.fn.root.tree l.fn.from l.fn.to }
 
-abbrev pub decreases-loop-next : goal.decreases-loop-next
-decreases-loop-next l = length l.left
+abbrev pub decreases-loop-row : goal.decreases-loop-row
+decreases-loop-row l = l.to - l.next
