@@ -1,4 +1,4 @@
--- What the walk reads of rows, before it makes a cursor. No contract outside this crate names these.
+-- What the walk reads of rows before it makes a cursor. No contract outside this crate names these.
 use Rattle.std.specs.Prelude.{ℕ, ◌+◌, ◌-◌, ◌==◌, Bool, ◌&&◌, nat_lt, List}
 use Rattle.tree_model.specs.Tree.{Tree, size, kind_of}
 use Rattle.tree_model.specs.Rows.{tree_at}

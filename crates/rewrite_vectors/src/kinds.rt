@@ -106,8 +106,8 @@ fn patterns_that_want_pairs(rt: HostRuntime) -> Result<(), Fail> {
     )
 }
 
-// To rustc `async {} (b)` is a call, `..` and `...` are the last in their lists, the path of a macro
-// has no arguments, and a `let` is in no pair; the parser takes all of these.
+// To rustc `async {} (b)` is a call, `..` and `...` are the last in their lists, the path of a
+// macro has no arguments, and a `let` is in no pair; the parser takes all of these.
 #[test]
 fn what_rustc_reads_otherwise(rt: HostRuntime) -> Result<(), Fail> {
     let refused = [

@@ -17,8 +17,11 @@ impl Table {
         requires { n < size self.now }
         ensures { result ≡ is_node_among K.kinds (cursor_at self.now n) }
     {
-        let row = self.row(n);
-        !row.is_token && K::has(row.kind)
+        // Of a token the kind is not looked up: a walk passes over more tokens than nodes.
+        if self.row(n).is_token {
+            return false;
+        }
+        K::has(self.row(n).kind)
     }
 
     fn is_token_among<K: KindSet>(&self, n: usize) -> bool
