@@ -31,11 +31,23 @@ def texts_of(folder, edit):
 
 
 def modules_of(places):
-    """The modules of a crate's files, as the prover's option `--only` takes them. The root file has none that means it alone."""
+    """The modules of a crate's files, as the prover's option `--only` takes them; none if the whole crate has to be checked: a definition or
+    a lemma has no module of its own, and the root file has none that means it alone."""
     found = [place.removeprefix("src/").removesuffix(".rt").replace("/", "::") for place in places]
-    if any(not place.startswith("src/") for place in places) or any(it in ("lib", "main") for it in found):
-        raise BadEdit("it changes other than a module of the sources")
-    return found
+    is_whole = any(not place.startswith("src/") for place in places) or any(it in ("lib", "main") for it in found)
+    return [] if is_whole else found
+
+
+# What the prover says of a text that it cannot read, where a false statement reads well.
+UNREAD = re.compile(r"(?m)^(\./)?(src|specs)/\S+ error: .*(is not in scope|has no field|is no name|operand is missing|expected the end|cannot continue)")
+
+
+def is_refused(status, text):
+    """Whether the prover said of what it was asked to check that some of it is not proved."""
+    told = re.search(r"(?m)^only=(\d+) proved=(\d+)$", text)
+    if told:
+        return status == 1 and int(told[2]) < int(told[1])
+    return status == 1 and re.search(r"(?m)^logic=not-proved", text) is not None and not UNREAD.search(text)
 
 
 def refused(crates, name, edit, built):
@@ -51,7 +63,6 @@ def refused(crates, name, edit, built):
                 copy.write(file.read())
         try:
             texts = texts_of(folder, edit)
-            modules = modules_of(texts)
         except BadEdit as error:
             return False, str(error)
         for place, text in texts.items():
@@ -59,6 +70,5 @@ def refused(crates, name, edit, built):
                 file.write(text)
         words = repository.build_words(crates, name, built)
         words[words.index("build")] = "check"
-        status, text, _ = repository.call([*words, *[it for module in modules for it in ("--only", module)]], folder, text=True)
-    told = re.search(r"(?m)^only=(\d+) proved=(\d+)$", text)
-    return status == 1 and told is not None and int(told[2]) < int(told[1]), text
+        status, text, _ = repository.call([*words, *[it for module in modules_of(texts) for it in ("--only", module)]], folder, text=True)
+    return is_refused(status, text), text

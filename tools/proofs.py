@@ -3,6 +3,7 @@
 The compiler builds a crate only once it is proved. `rt ci`, by which `./check` proves, does more for each crate: it looks for contracts that no
 call can meet, tries planted bugs, proves tests, and builds each program by two compilers. Whoever wants the program needs none of that.
 """
+import contextlib
 import fcntl
 import hashlib
 import os
@@ -98,9 +99,10 @@ class Proofs:
         return self.link(name, to)
 
 
-def build(names, say):
-    """Proves and builds these programs and static libraries, and puts each into its crate's folder out/: their paths, or the name of a crate
-    that is not proved and what was said of it."""
+@contextlib.contextmanager
+def proved(names, say):
+    """Proves these crates and all below them, from a copy of the repository that lasts as long as the context. Gives what was proved, and the
+    name of a crate that is not proved with what was said of it, or None."""
     crates = repository.Crates()
     inside = os.path.join(repository.TOP, ".git")
     # A second run waits for the first, and takes what it proved.
@@ -108,14 +110,20 @@ def build(names, say):
     fcntl.flock(lock, fcntl.LOCK_EX)
     with lock, tempfile.TemporaryDirectory(prefix="build-", dir=inside if os.path.isdir(inside) and os.access(inside, os.W_OK) else None) as folder:
         # An edit of a source during the proof changes nothing in the copy.
-        repository.copy_to(folder, crates, crates.below(names), edits_of=[])
+        repository.copy_to(folder, crates, crates.below(names), with_edits=False)
         proofs = Proofs(repository.Crates(folder), say)
-        refused = proofs.prove_all(names)
+        yield proofs, proofs.prove_all(names)
+
+
+def build(names, say):
+    """Proves and builds these programs and static libraries, and puts each into its crate's folder out/: their paths, or the name of a crate
+    that is not proved and what was said of it."""
+    with proved(names, say) as (proofs, refused):
         if refused:
             return None, refused
         paths = []
         for name in names:
-            path = os.path.join(repository.TOP, "crates", name, "out", f"lib{name}.a" if name in crates.static else name)
+            path = os.path.join(repository.TOP, "crates", name, "out", f"lib{name}.a" if name in proofs.crates.static else name)
             # A program that runs while it is rebuilt keeps its file.
             status, text = proofs.put(name, path + ".new")
             if status:
