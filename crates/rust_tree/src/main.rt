@@ -156,13 +156,27 @@ fn run_with_rules(
     let Some(text) = text_or_tell(rt, path)? else {
         return Ok(UNREAD);
     };
-    let task = task_of_rules(rt.alloc(), command, path, text.as_str(), matches);
+    // Some editors begin a text with the mark of its byte order.
+    let text = text.as_str();
+    let rules = text.strip_prefix('\u{feff}').unwrap_or(text);
+    let task = task_of_rules(rt.alloc(), command, path, rules, matches);
     run_or_tell(rt, task, command, matches)
+}
+
+// Whether the rules of a command line are on standard input, and one of its files too, of which
+// nothing would be left.
+fn reads_input_twice(names: &[&str], rules: Option<&str>) -> bool {
+    rules == Some("-") && names.iter().any(|name| *name == "-")
 }
 
 // Runs a command on files. Returns the exit status.
 fn run_on_files(rt: &HostRuntime, command: &str, matches: &ArgMatches) -> io::Result<u8> {
-    match matches.get_str("rules") {
+    let rules = matches.get_str("rules");
+    if reads_input_twice(files_of(command, matches), rules) {
+        eprintln!(rt; "rust_tree: standard input cannot be both the rules and a file")?;
+        return Ok(USAGE);
+    }
+    match rules {
         Some(path) => run_with_rules(rt, command, path, matches),
         None => {
             let several = has_several(rt, command, matches);
