@@ -183,7 +183,7 @@ fn what_rustc_reads_otherwise(rt: HostRuntime) -> Result<(), Fail> {
             (
                 "if $c { $$b } ==>> while $c { $$b }",
                 "fn g() { if a && let Some(b) = (c && d) {} }",
-                "fn g() { while a && let Some(b) = (c && d) {} }",
+                "fn g() { while a && let Some(b) = (c && d) {  } }",
             ),
         ],
     )
